@@ -1,0 +1,16 @@
+-- What follows from demand 3 for any gateway that keeps it.
+use mathlib.Core.Path.{_≡_, sym, ap, _∙_}
+use mathlib.Core.List.{List}
+use Prim.Native.Nat.{ℕ}
+use Rattle.rules.specs.Demand3.{Gateway, Made, Demand3, Told, SameHistory, SameClient, goneToServer, historyOf}
+
+pub same-client : (g : Gateway) → Demand3 g → SameClient g
+same-client g demand su l m a b text ended =
+    demand su (a .first) (a .last) l (a .fresh) (a .calls) .toServer
+    ∙ rw (text, ended) (sym (demand su (b .first) (b .last) m (b .fresh) (b .calls) .toServer))
+
+pub same-history : (g : Gateway) → Demand3 g → SameHistory g
+same-history g demand su l m a b same =
+    let p = demand su (a .first) (a .last) l (a .fresh) (a .calls) in
+    let q = demand su (b .first) (b .last) m (b .fresh) (b .calls) in
+    (p .toServer ∙ rw same (sym (q .toServer)), p .toClient ∙ rw same (sym (q .toClient)))

@@ -1,0 +1,90 @@
+-- "The session": the table of answers, over what it looks at in a call and in a record.
+use mathlib.Core.Bool.{Bool, true, false, _&&_, not}
+use mathlib.Core.List.{List}
+use mathlib.Core.Option.{Option, none, some}
+use Prim.Native.Nat.{ℕ, zero, suc, _+_, _-_, _*_, _%_, _^_}
+use lib.Dec.{leb, eqb}
+use lib.ListN.{length}
+use Rattle.rules.specs.Octets.{choose}
+use Rattle.rules.specs.Lines.{judged}
+use Rattle.rules.specs.declared.Answer.{Answer}
+use Rattle.rules.specs.declared.Answer.the-variants.{
+  Done,
+  QueueFull,
+  NoRoom,
+  UnknownDirection,
+  BadRecord,
+  BadSetup,
+  DirectionEnded,
+}
+
+-- the table's first column
+unfoldable pub answerNumber : Answer → ℕ
+answerNumber Done = 0
+answerNumber QueueFull = 1
+answerNumber NoRoom = 2
+answerNumber UnknownDirection = 3
+answerNumber BadRecord = 4
+answerNumber BadSetup = 5
+answerNumber DirectionEnded = 6
+
+-- "a direction (0 client, 1 server)"
+pub data Side : Type 0 where
+  client server : Side
+
+abbrev pub sideOf : ℕ → Side
+sideOf zero = client
+sideOf (suc d) = server
+
+-- "a queue of replies owed, at most 16"
+unfoldable pub mostOwed : ℕ
+mostOwed = 16
+
+-- number 1: "next octet is the client's, no AUTH yet, 16 replies owed"
+unfoldable pub isQueueFull : Side → Bool → ℕ → Bool
+isQueueFull client authYet owed = not authYet && leb mostOwed owed
+isQueueFull server authYet owed = false
+
+-- number 2 is not given: each buffer has room for what goes into it
+unfoldable pub fits : List ℕ → List ℕ → ℕ → ℕ → Bool
+fits toServer toClient serverRoom clientRoom = leb (length toServer) serverRoom && leb (length toClient) clientRoom
+
+-- number 4, for a side: "over 511 octets held, or octets held where the line already flows, the direction has ended or its octets pass at once"
+unfoldable pub soundHeld : Bool → ℕ → Bool
+soundHeld mayHold held = choose mayHold (leb held (judged - 1)) (eqb held 0)
+
+-- number 4: "record not live, over 16 owed, an owed kind not listed here", or a side's held octets
+unfoldable pub soundRecord : Bool → ℕ → Bool → Bool → Bool → Bool
+soundRecord live owed kindsListed clientHeld serverHeld =
+    live && leb owed mostOwed && kindsListed && clientHeld && serverHeld
+
+-- "Order: 3, 4, 6": what refuses a call on a direction, if anything does
+unfoldable pub refusal : ℕ → Bool → Bool → Option Answer
+refusal direction sound ended =
+    choose (leb 2 direction) (some UnknownDirection)
+    (choose (not sound) (some BadRecord)
+    (choose ended (some DirectionEnded) none))
+
+-- "then octet by octet 1 before 2": what stops a call before its next octet, if anything does
+unfoldable pub stop : Bool → Bool → Option Answer
+stop full room = choose full (some QueueFull) (choose room none (some NoRoom))
+
+-- "One octet writes at most 512 octets to the server and at most 1,280 to the client": a line, and for the client sixteen answers of 48
+unfoldable pub mostToServer : ℕ
+mostToServer = judged
+
+unfoldable pub mostToClient : ℕ
+mostToClient = judged + mostOwed * 48
+
+-- "counts octets taken and written in 32 bits that wrap"
+unfoldable pub wrapped : ℕ → ℕ
+wrapped n = n % 2 ^ 32
+
+-- "Its offset is written minus taken, modulo 2^32"
+unfoldable pub offsetOf : ℕ → ℕ → ℕ
+offsetOf written taken = wrapped (wrapped written + (2 ^ 32 - wrapped taken))
+
+-- this page's definitions, for a proof that computes with them
+unfoldable pub answers-opened : Unit {0}
+unfolding answerNumber mostOwed isQueueFull fits soundHeld soundRecord refusal stop mostToServer mostToClient wrapped offsetOf
+answers-opened = tt

@@ -1,0 +1,156 @@
+-- "Demand 3 written out": one claim about a list of calls, over any record and functions that keep a promise.
+use mathlib.Core.Path.{_≡_}
+use mathlib.Core.Bool.{Bool, true, false}
+use mathlib.Core.List.{List, [], _∷_, _++_, map}
+use Prim.Native.Nat.{ℕ}
+use lib.ListN.{length, take}
+use Rattle.rules.specs.Answers.{Side, client, server, sideOf, offsetOf}
+use Rattle.rules.specs.Setup.{Setup}
+use Rattle.rules.specs.History.{Item, octet, end, textOf, hasEnded, takenFrom}
+use Rattle.rules.specs.ToServer.{toServer as readServer}
+use Rattle.rules.specs.ToClient.{toClient as readClient}
+use Rattle.rules.specs.declared.Answer.{Answer}
+use Rattle.rules.specs.declared.Answer.the-variants.{
+  Done,
+  QueueFull,
+  NoRoom,
+  UnknownDirection,
+  BadRecord,
+  BadSetup,
+  DirectionEnded,
+}
+
+-- "any arrivals and ends .., with buffers of any size": the direction's number, the octets that arrive, and the two buffers as they were lent
+pub data Call : Type 0 where
+  arrival : ℕ → List ℕ → List ℕ → List ℕ → Call
+  ending : ℕ → List ℕ → List ℕ → Call
+
+-- what a call returned: the answer, the octets taken, how many it wrote into each buffer, the record, and the buffers then
+pub record Return (Session : Type 0) : Type 0 where
+  pub answer : Answer
+  pub taken : ℕ
+  pub toServer : ℕ
+  pub toClient : ℕ
+  pub session : Session
+  pub serverBuffer : List ℕ
+  pub clientBuffer : List ℕ
+
+-- a gateway: its record, "the record of a setup that answered 0", what arrival and end promise, and a side's offset
+pub record Gateway : Type 1 where
+  pub Session : Type 0
+  pub Fresh : Setup → Session → Type 0
+  pub Promise : Session → Call → Return Session → Type 0
+  pub offset : Session → Side → ℕ
+
+-- "the ends that answered 0"
+abbrev pub endIfDone : Answer → Side → List Item
+endIfDone Done s = end s ∷ []
+endIfDone QueueFull s = []
+endIfDone NoRoom s = []
+endIfDone UnknownDirection s = []
+endIfDone BadRecord s = []
+endIfDone BadSetup s = []
+endIfDone DirectionEnded s = []
+
+-- refused by 3, 4 or 6
+abbrev pub isRefusal : Answer → Bool
+isRefusal Done = false
+isRefusal QueueFull = false
+isRefusal NoRoom = false
+isRefusal UnknownDirection = true
+isRefusal BadRecord = true
+isRefusal BadSetup = false
+isRefusal DirectionEnded = true
+
+-- the buffers that a call was lent
+abbrev pub lentServer : Call → List ℕ
+lentServer (arrival d xs s c) = s
+lentServer (ending d s c) = s
+
+abbrev pub lentClient : Call → List ℕ
+lentClient (arrival d xs s c) = c
+lentClient (ending d s c) = c
+
+module _ (g : Gateway) where
+  -- a call with what it returned
+  abbrev pub Made : Type 0
+  Made = Call × Return (g .Session)
+
+  -- "Each gets the record the last one returned": calls made from a first record to a last one
+  pub data Calls : g .Session → List Made → g .Session → Type 0 where
+    none : {r : g .Session} → Calls r [] r
+    next : {r z : g .Session} {c : Call} {t : Return (g .Session)} {l : List Made} → g .Promise r c t → Calls (t .session) l z → Calls r ((c, t) ∷ l) z
+
+  -- "The history is the octets that arrivals say they took, each with its side, and the ends that answered 0, in order"
+  abbrev pub itemsOf : Call → Return (g .Session) → List Item
+  itemsOf (arrival d xs s c) t = map (octet (sideOf d)) (take (t .taken) xs)
+  itemsOf (ending d s c) t = endIfDone (t .answer) (sideOf d)
+
+  abbrev pub historyOf : List Made → List Item
+  historyOf [] = []
+  historyOf (m ∷ l) = itemsOf (m .0) (m .1) ++ historyOf l
+
+  -- "What has gone to a side is what the calls wrote for it, joined"
+  abbrev pub goneToServer : List Made → List ℕ
+  goneToServer [] = []
+  goneToServer (m ∷ l) = take (m .1 .toServer) (m .1 .serverBuffer) ++ goneToServer l
+
+  abbrev pub goneToClient : List Made → List ℕ
+  goneToClient [] = []
+  goneToClient (m ∷ l) = take (m .1 .toClient) (m .1 .clientBuffer) ++ goneToClient l
+
+  -- "its length minus the octets taken from the other side, modulo 2^32, is the offset"
+  pub record Kept (su : Setup) (l : List Made) (z : g .Session) : Type 0 where
+    pub toServer : goneToServer l ≡ readServer su (textOf client (historyOf l)) (hasEnded client (historyOf l))
+    pub toClient : goneToClient l ≡ readClient su (historyOf l)
+    pub clientOffset : g .offset z client ≡ offsetOf (length (goneToServer l)) (takenFrom client (historyOf l))
+    pub serverOffset : g .offset z server ≡ offsetOf (length (goneToClient l)) (takenFrom server (historyOf l))
+
+  -- demand 3
+  abbrev pub Demand3 : Type 0
+  Demand3 = (su : Setup) (r z : g .Session) (l : List Made) → g .Fresh su r → Calls r l z → Kept su l z
+
+  -- ---- its consequences
+
+  -- calls from a fresh session
+  pub record Told (su : Setup) (l : List Made) : Type 0 where
+    pub first : g .Session
+    pub last : g .Session
+    pub fresh : g .Fresh su first
+    pub calls : Calls first l last
+
+  -- wherever the pieces were cut, whatever the rooms: the same history has sent the same octets to both sides
+  abbrev pub SameHistory : Type 0
+  SameHistory =
+      (su : Setup) (l m : List Made) → Told su l → Told su m → historyOf l ≡ historyOf m
+      → (goneToServer l ≡ goneToServer m) × (goneToClient l ≡ goneToClient m)
+
+  -- whatever the server sent: the same client text and end have sent the server the same octets
+  abbrev pub SameClient : Type 0
+  SameClient =
+      (su : Setup) (l m : List Made) → Told su l → Told su m
+      → textOf client (historyOf l) ≡ textOf client (historyOf m)
+      → hasEnded client (historyOf l) ≡ hasEnded client (historyOf m)
+      → goneToServer l ≡ goneToServer m
+
+  -- until the client's end, more client octets only add to what has gone to the server
+  abbrev pub OnlyAdds : Type 0
+  OnlyAdds =
+      (su : Setup) (l m : List Made) (more : List ℕ) → Told su l → Told su m
+      → hasEnded client (historyOf l) ≡ false
+      → textOf client (historyOf m) ≡ textOf client (historyOf l) ++ more
+      → (added : List ℕ) × (goneToServer m ≡ goneToServer l ++ added)
+
+  -- a call refused by 3, 4 or 6 leaves the buffers as they were lent, and the list is the same without it
+  pub record Unchanged (r z : g .Session) (l m : List Made) (c : Call) (t : Return (g .Session)) : Type 0 where
+    pub serverBuffer : t .serverBuffer ≡ lentServer c
+    pub clientBuffer : t .clientBuffer ≡ lentClient c
+    pub calls : Calls r (l ++ m) z
+    pub history : historyOf (l ++ (c, t) ∷ m) ≡ historyOf (l ++ m)
+    pub toServer : goneToServer (l ++ (c, t) ∷ m) ≡ goneToServer (l ++ m)
+    pub toClient : goneToClient (l ++ (c, t) ∷ m) ≡ goneToClient (l ++ m)
+
+  abbrev pub RefusedChangesNothing : Type 0
+  RefusedChangesNothing =
+      (r z : g .Session) (l m : List Made) (c : Call) (t : Return (g .Session))
+      → Calls r (l ++ (c, t) ∷ m) z → isRefusal (t .answer) ≡ true → Unchanged r z l m c t

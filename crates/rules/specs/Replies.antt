@@ -1,0 +1,132 @@
+-- "Server lines": which line ends a reply, the 227 reader, the lines that the gateway writes, and the queue.
+use mathlib.Core.Bool.{Bool, true, false, _&&_, _||_}
+use mathlib.Core.List.{List, [], _∷_, _++_}
+use mathlib.Core.Option.{Option, none, some}
+use Prim.Native.Nat.{ℕ, zero, suc, _+_, _*_}
+use lib.Dec.{eqb}
+use lib.ListN.{length, getD, take, drop}
+use Rattle.rules.specs.Octets.{oct, space, comma, choose, within, equal, digit, notDigit, front, after, decimal}
+use Rattle.rules.specs.Address.{both, octetNumber}
+use Rattle.rules.specs.Lines.{unchanged, content}
+use Rattle.rules.specs.declared.Switches.{Switches}
+use Rattle.rules.specs.declared.OwnAnswer.{OwnAnswer}
+use Rattle.rules.specs.declared.OwnAnswer.the-variants.{ProtocolNotSupported, ParameterNotImplemented, State}
+use Rattle.rules.specs.declared.Kind.{Kind}
+use Rattle.rules.specs.declared.ReplyLine.{ReplyLine}
+use Rattle.rules.specs.declared.ReplyLine.the-variants.{GoesOn, Preliminary, Final}
+use Rattle.rules.specs.declared.PassiveReply.{PassiveReply}
+
+-- ---- replies
+
+-- "starts with a digit 1 to 5, two digits, and then a space or the end"
+unfoldable pub endsReply : List ℕ → Bool
+endsReply c =
+    within 49 53 (getD c 0 0) && digit (getD c 1 0) && digit (getD c 2 0)
+    && (eqb (length c) 3 || eqb (getD c 3 0) space)
+
+-- "ends a reply. Any other line belongs to a reply that goes on"; "First digit 2 to 5 also removes the first owed kind"
+unfoldable pub replyLine : List ℕ → ReplyLine
+replyLine c = choose (endsReply c) (choose (eqb (getD c 0 0) 49) Preliminary Final) GoesOn
+
+-- "that reply is unfinished from this line's LF to the LF of the line that ends it"
+unfoldable pub leavesUnfinished : ReplyLine → Bool
+leavesUnfinished GoesOn = true
+leavesUnfinished Preliminary = false
+leavesUnfinished Final = false
+
+-- ---- 227
+
+-- one number and k more: "each a whole run of 1 to 3 digits, 0 to 255, single commas between; what follows the sixth run is not looked at"
+unfoldable pub afterComma : List ℕ → Option (List ℕ) → Option (List ℕ)
+afterComma t more = choose (eqb (getD t 0 0) comma) more none
+
+unfoldable pub numbers : ℕ → List ℕ → Option (List ℕ)
+numbers zero t = octetNumber (front digit t)
+numbers (suc k) t = let u = after digit t in both (octetNumber (front digit t)) (afterComma u (numbers k (drop 1 u)))
+
+-- "The port is the fifth times 256 plus the sixth; if not 0"
+unfoldable pub passivePort : Option (List ℕ) → PassiveReply
+passivePort none = PassiveReply.Unreadable
+passivePort (some ns) =
+    let p = getD ns 4 0 * 256 + getD ns 5 0 in choose (eqb p 0) PassiveReply.Unreadable (PassiveReply.Port p)
+
+-- "the code is 227"; "read six numbers from the first digit after the code's space"
+unfoldable pub passiveReply : List ℕ → PassiveReply
+passiveReply c =
+    choose (equal (take 4 c) (oct "227 ")) (passivePort (numbers 5 (after notDigit (drop 4 c)))) PassiveReply.Unreadable
+
+-- ---- the lines that the gateway writes to the client
+
+unfoldable pub extendedPassiveLine : ℕ → List ℕ
+extendedPassiveLine p = oct "229 Entering Extended Passive Mode (|||" ++ (decimal p ++ oct "|)\r\n")
+
+-- "`216` and NONE, EPSV, EPRT or EPSVEPRT"
+unfoldable pub stateLine : Bool → Bool → List ℕ
+stateLine false false = oct "216 NONE\r\n"
+stateLine true false = oct "216 EPSV\r\n"
+stateLine false true = oct "216 EPRT\r\n"
+stateLine true true = oct "216 EPSVEPRT\r\n"
+
+unfoldable pub answerLine : OwnAnswer → List ℕ
+answerLine ProtocolNotSupported = oct "522 Network protocol not supported\r\n"
+answerLine ParameterNotImplemented = oct "504 Command not implemented for that parameter\r\n"
+answerLine (State sw) = stateLine (sw .epsv) (sw .eprt)
+
+-- ---- a line that ends a final reply
+
+unfoldable pub passiveGives : List ℕ → PassiveReply → List ℕ
+passiveGives l PassiveReply.Unreadable = unchanged l
+passiveGives l (PassiveReply.Port p) = extendedPassiveLine p
+
+-- what it becomes by the kind that it removes, if it is judged whole and no earlier line belongs to its reply
+unfoldable pub finalGives : Kind → List ℕ → List ℕ
+finalGives Kind.Plain l = unchanged l
+finalGives Kind.TranslatedEpsv l = passiveGives l (passiveReply (content l))
+finalGives (Kind.Own a) l = unchanged l
+finalGives Kind.Auth l = unchanged l
+
+-- ---- the queue
+
+abbrev pub isAuth : Kind → Bool
+isAuth Kind.Plain = false
+isAuth Kind.TranslatedEpsv = false
+isAuth (Kind.Own a) = false
+isAuth Kind.Auth = true
+
+-- "removes the first owed kind, unless none is owed or it is the gateway's own answer"
+unfoldable pub removed : List Kind → List Kind
+removed [] = []
+removed (Kind.Plain ∷ ks) = ks
+removed (Kind.TranslatedEpsv ∷ ks) = ks
+removed (Kind.Own a ∷ ks) = Kind.Own a ∷ ks
+removed (Kind.Auth ∷ ks) = ks
+
+unfoldable pub owedAfter : ReplyLine → List Kind → List Kind
+owedAfter GoesOn ks = ks
+owedAfter Preliminary ks = ks
+owedAfter Final ks = removed ks
+
+-- "the gateway's own answers at the head of the queue": as written in order, and the queue without them
+unfoldable pub headAnswers : List Kind → List ℕ
+headAnswers [] = []
+headAnswers (Kind.Plain ∷ ks) = []
+headAnswers (Kind.TranslatedEpsv ∷ ks) = []
+headAnswers (Kind.Own a ∷ ks) = answerLine a ++ headAnswers ks
+headAnswers (Kind.Auth ∷ ks) = []
+
+unfoldable pub withoutAnswers : List Kind → List Kind
+withoutAnswers [] = []
+withoutAnswers (Kind.Plain ∷ ks) = Kind.Plain ∷ ks
+withoutAnswers (Kind.TranslatedEpsv ∷ ks) = Kind.TranslatedEpsv ∷ ks
+withoutAnswers (Kind.Own a ∷ ks) = withoutAnswers ks
+withoutAnswers (Kind.Auth ∷ ks) = Kind.Auth ∷ ks
+
+-- "When AUTH reaches the head"
+unfoldable pub authAtHead : List Kind → Bool
+authAtHead [] = false
+authAtHead (k ∷ ks) = isAuth k
+
+-- this page's definitions, for a proof that computes with them
+unfoldable pub replies-opened : Unit {0}
+unfolding endsReply replyLine leavesUnfinished afterComma numbers passivePort passiveReply extendedPassiveLine stateLine answerLine passiveGives finalGives removed owedAfter headAnswers withoutAnswers authAtHead
+replies-opened = tt

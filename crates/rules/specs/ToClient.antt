@@ -1,0 +1,168 @@
+-- "To the client: the history is read item by item."
+use mathlib.Core.Bool.{Bool, true, false, _&&_, _||_, not}
+use mathlib.Core.List.{List, [], _∷_, _++_}
+use Prim.Native.Nat.{ℕ}
+use lib.Dec.{eqb}
+use lib.ListN.{length}
+use Rattle.rules.specs.Octets.{lf, choose}
+use Rattle.rules.specs.Answers.{client, server}
+use Rattle.rules.specs.Setup.{Setup, setupSwitches}
+use Rattle.rules.specs.Lines.{judged, isWhole, startsAuth, unchanged, content}
+use Rattle.rules.specs.Replies.{isAuth, replyLine, leavesUnfinished, owedAfter, headAnswers, withoutAnswers, authAtHead}
+use Rattle.rules.specs.Edition.{ClientLine, LineRules, document01}
+use Rattle.rules.specs.History.{Item, octet, end}
+use Rattle.rules.specs.ToServer.{finishedLine}
+use Rattle.rules.specs.declared.Switches.{Switches}
+use Rattle.rules.specs.declared.Kind.{Kind}
+use Rattle.rules.specs.declared.ReplyLine.{ReplyLine}
+use Rattle.rules.specs.declared.ReplyLine.the-variants.{GoesOn, Preliminary, Final}
+
+-- "each side's unfinished line", "which sides ended or pass at once"
+pub data Place : Type 0 where
+  inLine : List ℕ → Place
+  passing : Place
+  ended : Place
+
+-- "State: the switches, each side's unfinished line, the kinds owed .., whether a reply is unfinished, which sides ended or pass at once"
+pub record ClientState : Type 0 where
+  pub switches : Switches
+  pub place : Place
+
+pub record ServerState : Type 0 where
+  pub place : Place
+  pub owed : List Kind
+  pub unfinished : Bool
+
+-- ---- a client octet: the client's state after it, and the kinds that it puts on the queue
+
+pub record ClientStep : Type 0 where
+  pub state : ClientState
+  pub owes : List Kind
+
+abbrev pub placeAfter : Kind → Place
+placeAfter k = choose (isAuth k) passing (inLine [])
+
+-- "where it finishes one before AUTH"
+unfoldable pub finishes : ClientLine → ClientStep
+finishes j = record { state = record { switches = j .switches; place = placeAfter (j .owes) }; owes = j .owes ∷ [] }
+
+-- "or makes it AUTH": by the octet that lets a long line go
+unfoldable pub joins : Switches → List ℕ → ClientStep
+joins sw l =
+    choose (eqb (length l) judged && startsAuth l)
+    (record { state = record { switches = sw; place = passing }; owes = Kind.Auth ∷ [] })
+    (record { state = record { switches = sw; place = inLine l }; owes = [] })
+
+-- "A client octet joins its line"
+unfoldable pub clientOctet : LineRules → Switches → Place → ℕ → ClientStep
+clientOctet rules sw (inLine l) x = choose (eqb x lf) (finishes (finishedLine rules sw l)) (joins sw (l ++ (x ∷ [])))
+clientOctet rules sw passing x = record { state = record { switches = sw; place = passing }; owes = [] }
+clientOctet rules sw ended x = record { state = record { switches = sw; place = ended }; owes = [] }
+
+-- ---- a server octet: what it gives, and the server's state after it
+
+pub record ServerStep : Type 0 where
+  pub state : ServerState
+  pub gives : List ℕ
+
+abbrev pub serverStep : Place → List Kind → Bool → List ℕ → ServerStep
+serverStep p owed unfinished gives = record { state = record { place = p; owed = owed; unfinished = unfinished }; gives = gives }
+
+-- "no earlier line belongs to its reply": else the line passes
+unfoldable pub finalLineGives : LineRules → List Kind → Bool → List ℕ → List ℕ
+finalLineGives rules [] unfinished l = unchanged l
+finalLineGives rules (k ∷ ks) unfinished l = choose unfinished (unchanged l) (rules .finalLine k l)
+
+unfoldable pub wholeLineGives : LineRules → List Kind → Bool → List ℕ → ReplyLine → List ℕ
+wholeLineGives rules owed unfinished l GoesOn = unchanged l
+wholeLineGives rules owed unfinished l Preliminary = unchanged l
+wholeLineGives rules owed unfinished l Final = finalLineGives rules owed unfinished l
+
+-- "the LF of a line judged whole gives what "Server lines" makes of it, and each LF changes queue and reply as there"
+unfoldable pub serverLine : LineRules → List Kind → Bool → List ℕ → ServerStep
+serverLine rules owed unfinished l =
+    let r = replyLine (content l) in
+    serverStep (inLine []) (owedAfter r owed) (leavesUnfinished r)
+    (choose (isWhole l) (wholeLineGives rules owed unfinished l r) (lf ∷ []))
+
+-- "up to 511 without LF give nothing, a 512th not LF gives all, later ones themselves": l ends with the octet x
+unfoldable pub lineOctetGives : List ℕ → ℕ → List ℕ
+lineOctetGives l x = choose (isWhole l) [] (choose (eqb (length l) judged) l (x ∷ []))
+
+unfoldable pub lineOctet : List Kind → Bool → List ℕ → ℕ → ServerStep
+lineOctet owed unfinished l x = serverStep (inLine l) owed unfinished (lineOctetGives l x)
+
+-- "A server octet gives itself once its side passes at once"
+unfoldable pub serverOctet : LineRules → Place → List Kind → Bool → ℕ → ServerStep
+serverOctet rules (inLine l) owed unfinished x =
+    choose (eqb x lf) (serverLine rules owed unfinished l) (lineOctet owed unfinished (l ++ (x ∷ [])) x)
+serverOctet rules passing owed unfinished x = serverStep passing owed unfinished (x ∷ [])
+serverOctet rules ended owed unfinished x = serverStep ended owed unfinished []
+
+-- ---- "After each octet follow the own answers and the AUTH step"
+
+-- the held octets: an unfinished line that does not flow yet
+unfoldable pub held : Place → List ℕ
+held (inLine l) = choose (isWhole l) l []
+held passing = []
+held ended = []
+
+-- "a server line is flowing, or the server direction has ended"
+unfoldable pub flowsOrEnded : Place → Bool
+flowsOrEnded (inLine l) = not (isWhole l)
+flowsOrEnded passing = false
+flowsOrEnded ended = true
+
+-- "the gateway's own answers at the head of the queue are written in order, unless .."
+unfoldable pub ownAnswers : Place → List Kind → Bool → List ℕ → ServerStep
+ownAnswers p owed unfinished gives =
+    choose (unfinished || flowsOrEnded p) (serverStep p owed unfinished gives)
+    (serverStep p (withoutAnswers owed) unfinished (gives ++ headAnswers owed))
+
+abbrev pub passesFromNow : Place → Place
+passesFromNow (inLine l) = passing
+passesFromNow passing = passing
+passesFromNow ended = ended
+
+-- "When AUTH reaches the head, held server octets pass and all later ones pass at once"
+unfoldable pub authStep : ServerStep → ServerStep
+authStep t =
+    let s = t .state in
+    choose (authAtHead (s .owed))
+    (serverStep (passesFromNow (s .place)) (s .owed) (s .unfinished) (t .gives ++ held (s .place)))
+    t
+
+-- after an octet that gave what `t` says and put `new` on the queue
+unfoldable pub afterOctet : ServerStep → List Kind → ServerStep
+afterOctet t new = let s = t .state in authStep (ownAnswers (s .place) (s .owed ++ new) (s .unfinished) (t .gives))
+
+-- ---- the whole history
+
+unfoldable pub readToClient : LineRules → ClientState → ServerState → List Item → List ℕ
+readToClient rules c s [] = []
+readToClient rules c s (octet client x ∷ is) =
+    let j = clientOctet rules (c .switches) (c .place) x in
+    let t = afterOctet (record { state = s; gives = [] }) (j .owes) in
+    t .gives ++ readToClient rules (j .state) (t .state) is
+readToClient rules c s (octet server x ∷ is) =
+    let t = afterOctet (serverOctet rules (s .place) (s .owed) (s .unfinished) x) [] in
+    t .gives ++ readToClient rules c (t .state) is
+readToClient rules c s (end client ∷ is) = readToClient rules (record { switches = c .switches; place = ended }) s is
+readToClient rules c s (end server ∷ is) =
+    held (s .place) ++ readToClient rules c (record { place = ended; owed = s .owed; unfinished = s .unfinished }) is
+
+-- "the kinds owed (at first plain, the greeting)"
+abbrev pub freshServer : ServerState
+freshServer = record { place = inLine []; owed = Kind.Plain ∷ []; unfinished = false }
+
+abbrev pub freshClient : Switches → ClientState
+freshClient sw = record { switches = sw; place = inLine [] }
+
+-- what has gone to the client after a setup, by the history
+unfoldable pub toClient : Setup → List Item → List ℕ
+toClient su is = readToClient (document01 su) (freshClient (setupSwitches (su .flags))) freshServer is
+
+-- this page's definitions, for a proof that computes with them
+unfoldable pub to-client-opened : Unit {0}
+unfolding finishes joins clientOctet finalLineGives wholeLineGives serverLine lineOctetGives lineOctet serverOctet held flowsOrEnded ownAnswers authStep afterOctet readToClient toClient
+to-client-opened = tt

@@ -1,0 +1,71 @@
+-- "To the server: the client's octets are one text, read line by line, with the setup's EPSV and EPRT switches."
+use mathlib.Core.Bool.{Bool, true, false}
+use mathlib.Core.List.{List, [], _∷_, _++_}
+use Prim.Native.Nat.{ℕ}
+use lib.Dec.{eqb}
+use Rattle.rules.specs.Octets.{lf, choose}
+use Rattle.rules.specs.Answers.{client}
+use Rattle.rules.specs.Setup.{Setup, setupSwitches}
+use Rattle.rules.specs.Lines.{isWhole, startsAuth, unchanged}
+use Rattle.rules.specs.Replies.{isAuth}
+use Rattle.rules.specs.Edition.{ClientLine, LineRules, document01}
+use Rattle.rules.specs.History.{Item, textOf, hasEnded}
+use Rattle.rules.specs.declared.Switches.{Switches}
+use Rattle.rules.specs.declared.Kind.{Kind}
+
+-- a text as its finished lines, each without its LF, and the unfinished line after them
+pub record Text : Type 0 where
+  pub lines : List (List ℕ)
+  pub rest : List ℕ
+
+unfoldable pub ontoLine : ℕ → List (List ℕ) → List ℕ → Text
+ontoLine x [] rest = record { lines = []; rest = x ∷ rest }
+ontoLine x (l ∷ ls) rest = record { lines = (x ∷ l) ∷ ls; rest = rest }
+
+unfoldable pub ontoText : Bool → ℕ → Text → Text
+ontoText true x t = record { lines = [] ∷ t .lines; rest = t .rest }
+ontoText false x t = ontoLine x (t .lines) (t .rest)
+
+-- "A line ends with LF"
+unfoldable pub asLines : List ℕ → Text
+asLines [] = record { lines = []; rest = [] }
+asLines (x ∷ xs) = ontoText (eqb x lf) x (asLines xs)
+
+-- "After AUTH every octet gives itself"
+unfoldable pub asTheyCame : List (List ℕ) → List ℕ → List ℕ
+asTheyCame [] rest = rest
+asTheyCame (l ∷ ls) rest = l ++ (lf ∷ asTheyCame ls rest)
+
+-- what a finished flowing line owes: it is AUTH "if its first five octets are AUTH and a space"
+unfoldable pub longOwes : Bool → Kind
+longOwes true = Kind.Auth
+longOwes false = Kind.Plain
+
+-- "A line judged whole gives what "Client lines" makes of it", "A longer one gives itself"
+unfoldable pub finishedLine : LineRules → Switches → List ℕ → ClientLine
+finishedLine rules sw l =
+    choose (isWhole l) (rules .clientLine sw l)
+    (record { toServer = unchanged l; owes = longOwes (startsAuth l); switches = sw })
+
+-- "An unfinished one gives nothing up to 511 octets, and itself from 512 or once the client has ended"
+unfoldable pub unfinishedLine : List ℕ → Bool → List ℕ
+unfinishedLine rest ended = choose (isWhole rest) (choose ended rest []) rest
+
+unfoldable pub readLines : LineRules → Switches → List (List ℕ) → List ℕ → Bool → List ℕ
+readLines rules sw [] rest ended = unfinishedLine rest ended
+readLines rules sw (l ∷ ls) rest ended =
+    let line = finishedLine rules sw l in
+    let next = readLines rules (line .switches) ls rest ended in
+    line .toServer ++ choose (isAuth (line .owes)) (asTheyCame ls rest) next
+
+unfoldable pub readToServer : LineRules → Switches → List ℕ → Bool → List ℕ
+readToServer rules sw text ended = let t = asLines text in readLines rules sw (t .lines) (t .rest) ended
+
+-- what has gone to the server after a setup, by the client's text and whether the client has ended
+unfoldable pub toServer : Setup → List ℕ → Bool → List ℕ
+toServer su text ended = readToServer (document01 su) (setupSwitches (su .flags)) text ended
+
+-- this page's definitions, for a proof that computes with them
+unfoldable pub to-server-opened : Unit {0}
+unfolding ontoLine ontoText asLines asTheyCame longOwes finishedLine unfinishedLine readLines readToServer toServer
+to-server-opened = tt

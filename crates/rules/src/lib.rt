@@ -1,0 +1,94 @@
+// The terms of the rules as types, shared by the definitions in specs/ and by the code of the crates above.
+
+// What a call answers. `answerNumber` gives the number of each case.
+pub enum Answer {
+    Done,
+    QueueFull,
+    NoRoom,
+    UnknownDirection,
+    BadRecord,
+    BadSetup,
+    DirectionEnded,
+}
+
+// Which translations are on.
+pub struct Switches {
+    pub epsv: bool,
+    pub eprt: bool,
+}
+
+// The gateway's own answers: 522, 504, and 216 with the state of the switches.
+pub enum OwnAnswer {
+    ProtocolNotSupported,
+    ParameterNotImplemented,
+    State(Switches),
+}
+
+// The kinds of replies owed.
+pub enum Kind {
+    Plain,
+    TranslatedEpsv,
+    Own(OwnAnswer),
+    Auth,
+}
+
+// The command words that the gateway knows.
+pub enum CommandWord {
+    Epsv,
+    Eprt,
+    Algs,
+    Auth,
+    Other,
+}
+
+// What the argument of EPSV asks for: IPv6 or nothing in particular, another protocol, ALL, or something else.
+pub enum EpsvArgument {
+    Passive,
+    OtherProtocol,
+    All,
+    Other,
+}
+
+// The port of an EPRT argument that names the client's own address.
+pub enum EprtArgument {
+    Port(u16),
+    Other,
+}
+
+// The three arguments of ALGS.
+pub enum AlgsArgument {
+    Status64,
+    Enable64,
+    Disable64,
+    Other,
+}
+
+// What a client line judged whole is to the gateway.
+pub enum Command {
+    // It goes to the server as it came.
+    Passes,
+    // It becomes PASV.
+    Passive,
+    // It becomes PORT with this port.
+    Port(u16),
+    // It goes nowhere, and the gateway answers.
+    Answered(OwnAnswer),
+    // It goes to the server as it came, and is AUTH.
+    Auth,
+}
+
+// What a server line is to the reply that it stands in.
+pub enum ReplyLine {
+    // The reply goes on.
+    GoesOn,
+    // The reply ends; its first digit is 1.
+    Preliminary,
+    // The reply ends; its first digit is 2 to 5.
+    Final,
+}
+
+// The port of a 227 line.
+pub enum PassiveReply {
+    Port(u16),
+    Unreadable,
+}
