@@ -1,58 +1,112 @@
-"""The documents name only what is there.
+"""The documents say only what is there, and docs/TRACE.md leaves no sentence of document 01's rules out.
 
-A name as `Module.name` in docs/*.md or README.md must be a definition of a module of some crate's specs/ or proofs/, a relative link must
-lead to a file, and every definition that a reader has to believe must be traced in docs/TRACE.md.
+- A name such as `Octets.run` must be declared in a module Octets of some crate's specs/ or proofs/; a relative link must lead to a file.
+- The first cell of each row of docs/TRACE.md is words of document 01 (`..` stands for words left out; a cell in brackets is ours), and
+  together the rows cover the sections traced.
+- Every definition of the crate that a reader has to believe stands in docs/TRACE.md.
 """
 import pathlib
 import re
 import sys
 
 ROOT = pathlib.Path(__file__).resolve().parent.parent
+SCOPE = ROOT / "docs" / "01-scope.md"
+TRACE = ROOT / "docs" / "TRACE.md"
 DOCUMENTS = [ROOT / "README.md", *sorted((ROOT / "docs").glob("*.md"))]
-SOURCES = [ROOT / "docs" / "01-scope.md"]  # kept as it is: its words are not names of ours
-# What a reader has to believe: declarations, and not the fields of records.
-DECLARED = re.compile(r"^(?:  )?(?:(?:unfoldable|abbrev) pub (\S+)|pub (?:record|data) (\S+))", re.M)
-SIGNATURE = re.compile(r"^\s*(?:(?:unfoldable|abbrev|pub)\s+)*pub\s+(?:record\s+|data\s+)?(\S+)", re.M)
+TRACED = ["The session", "Lines", "Client lines", "Server lines", "Demand 3 written out"]
+BELIEVED = ["rules"]
+# how many words of document 01 may stand between two pieces that are traced
+GAP = 4
+
+MARKS = r"^(?:  )?(?:(?:unfoldable|abbrev) )?"
+DECLARED = re.compile(MARKS + r"pub (?:record |data )?([^\s:]+)", re.M)
+FIELD = re.compile(r"^ +pub (\S+) :", re.M)
+CONSTRUCTORS = re.compile(r"pub data .*?where\n((?:\s+.*\n)+)")
 
 
-def definitions():
-    """Each hand-written module of the crates: its name, and the names that it declares."""
+def modules():
+    """Each hand-written module, with the names that it declares: definitions, fields and constructors."""
     found = {}
-    for path in sorted(ROOT.glob("crates/*/specs/*.antt")) + sorted(ROOT.glob("crates/*/proofs/*.antt")):
-        if path.stem == "Lib":
-            continue
-        names = set(SIGNATURE.findall(path.read_text()))
-        for block in re.findall(r"pub data .*?where\n((?:\s+.*\n)+)", path.read_text()):
-            names.update(re.findall(r"^\s+([\w ]+?) :", block, re.M))
-        found.setdefault(path.stem, set()).update(n for group in names for n in group.split())
+    for kind in ("specs", "proofs"):
+        for path in sorted(ROOT.glob(f"crates/*/{kind}/**/*.antt")):
+            text = path.read_text()
+            names = set(DECLARED.findall(text)) | set(FIELD.findall(text))
+            for block in CONSTRUCTORS.findall(text):
+                names.update(re.findall(r"^\s+(\S+)", block, re.M))
+            found.setdefault(path.stem, set()).update(names)
     return found
 
 
-def main():
-    modules = definitions()
-    faults = []
+def definitions():
+    """What a reader has to believe: each declaration of the believed crate that is no field."""
+    for crate in BELIEVED:
+        for path in sorted(ROOT.glob(f"crates/{crate}/specs/**/*.antt")):
+            if path.stem == "Lib":
+                continue
+            text = path.read_text()
+            fields = set(FIELD.findall(re.sub(r"^  pub (\S+) : .*→ Type 0 where", "", text, flags=re.M)))
+            for name in DECLARED.findall(text):
+                declared = re.search(rf"(?:(?:unfoldable|abbrev) pub|pub record|pub data) {re.escape(name)}(?=[\s:])", text)
+                if not name.endswith("-opened") and (declared or name not in fields):
+                    yield path.stem, name
+
+
+def plain(text):
+    return re.sub(r"\s+", " ", text.replace("\\|", "|")).strip()
+
+
+def section(document, title):
+    found = re.search(rf"^## {re.escape(title)}\n(.*?)(?=^## |\Z)", document.read_text(), re.M | re.S)
+    return found.group(1) if found else ""
+
+
+def untraced(title):
+    """Faults of a section's rows: words that document 01 has not, and words of it that no row has."""
+    rows = [line for line in section(TRACE, title).splitlines() if line.startswith("| ") and not line.startswith("| Sentence")]
+    text = plain(re.sub(r"(?<!\|)\|(?!\|)", " ", section(SCOPE, title)))
+    left = text
+    for row in rows:
+        cell = plain(re.split(r"(?<!\\) \| ", row[2:])[0])
+        if cell.startswith("("):
+            continue
+        for piece in (p.strip(" ,;.") for p in re.split(r"(?:^|\s)\.\.(?:\s|$)", cell)):
+            if len(piece) > 1 and piece not in text:
+                yield f"docs/TRACE.md: document 01, {title}, has not: {piece}"
+            elif len(piece) > 1:
+                left = left.replace(piece, " \0 ")
+    for gap in left.split("\0"):
+        words = re.findall(r"\w+", gap)
+        if len(words) > GAP:
+            yield f"docs/TRACE.md: no row for document 01, {title}: {' '.join(words[:14])}"
+
+
+def faults():
+    known = modules()
     for document in DOCUMENTS:
-        text = document.read_text()
         where = document.relative_to(ROOT)
+        text = document.read_text()
         for target in re.findall(r"\]\(([^)#]+)(?:#[^)]*)?\)", text):
             if "://" not in target and not (document.parent / target).exists():
-                faults.append(f"{where}: the link {target} leads nowhere")
-        if document in SOURCES:
+                yield f"{where}: the link {target} leads nowhere"
+        if document == SCOPE:
             continue
         for module, name in re.findall(r"`([A-Z]\w+)\.([^`\s.{}]+)`", text):
-            if module in modules and name not in modules[module]:
-                faults.append(f"{where}: {module}.{name} is not defined")
-            if module not in modules:
-                faults.append(f"{where}: there is no module {module} (for {name})")
-    traced = (ROOT / "docs" / "TRACE.md").read_text()
-    for path in sorted(ROOT.glob("crates/rules/specs/*.antt")):
-        for name in map("".join, DECLARED.findall(path.read_text())):
-            if path.stem != "Lib" and not name.endswith("-opened") and f"{path.stem}.{name}`" not in traced:
-                faults.append(f"docs/TRACE.md: {path.stem}.{name} is traced to no sentence")
-    for fault in faults:
+            if name not in known.get(module, ()):
+                yield f"{where}: {module}.{name} is not declared"
+    for title in TRACED:
+        yield from untraced(title)
+    traced = TRACE.read_text()
+    for module, name in definitions():
+        if f"`{module}.{name}`" not in traced:
+            yield f"docs/TRACE.md: {module}.{name} stands in no row"
+
+
+def main():
+    found = list(faults())
+    for fault in found:
         print(fault)
-    print(f"{len(DOCUMENTS)} documents, {sum(map(len, modules.values()))} names, {len(faults)} faults")
-    return 1 if faults else 0
+    print(f"{len(DOCUMENTS)} documents, {sum(1 for _ in definitions())} definitions, {len(found)} faults")
+    return 1 if found else 0
 
 
 if __name__ == "__main__":

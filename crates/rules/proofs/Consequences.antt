@@ -1,8 +1,6 @@
 -- What follows from demand 3 for any gateway that keeps it.
-use mathlib.Core.Path.{_≡_, sym, ap, _∙_}
-use mathlib.Core.List.{List}
-use Prim.Native.Nat.{ℕ}
-use Rattle.rules.specs.Demand3.{Gateway, Made, Demand3, Told, SameHistory, SameClient, goneToServer, historyOf}
+use mathlib.Core.Path.{sym, _∙_}
+use Rattle.rules.specs.Demand3.{Gateway, Demand3, SameHistory, SameClient}
 
 pub same-client : (g : Gateway) → Demand3 g → SameClient g
 same-client g demand su l m a b text ended =

@@ -5,7 +5,7 @@ use mathlib.Core.List.{List, [], _∷_, _++_, map}
 use Prim.Native.Nat.{ℕ}
 use lib.ListN.{length, take}
 use Rattle.rules.specs.Answers.{Side, client, server, sideOf, offsetOf}
-use Rattle.rules.specs.Setup.{Setup}
+use Rattle.rules.specs.Setup.{Setup, setupAnswer}
 use Rattle.rules.specs.History.{Item, octet, end, textOf, hasEnded, takenFrom}
 use Rattle.rules.specs.ToServer.{toServer as readServer}
 use Rattle.rules.specs.ToClient.{toClient as readClient}
@@ -41,6 +41,12 @@ pub record Gateway : Type 1 where
   pub Fresh : Setup → Session → Type 0
   pub Promise : Session → Call → Return Session → Type 0
   pub offset : Session → Side → ℕ
+
+-- what keeps the claim below from being empty: a setup that answers 0 has a record, and every call returns
+pub record Answering (g : Gateway) : Type 0 where
+  pub fresh : (su : Setup) → setupAnswer (su .flags) ≡ Done → (r : g .Session) × g .Fresh su r
+  pub onlyFresh : (su : Setup) (r : g .Session) → g .Fresh su r → setupAnswer (su .flags) ≡ Done
+  pub returns : (r : g .Session) (c : Call) → (t : Return (g .Session)) × g .Promise r c t
 
 -- "the ends that answered 0"
 abbrev pub endIfDone : Answer → Side → List Item
@@ -99,7 +105,8 @@ module _ (g : Gateway) where
   goneToClient [] = []
   goneToClient (m ∷ l) = take (m .1 .toClient) (m .1 .clientBuffer) ++ goneToClient l
 
-  -- "its length minus the octets taken from the other side, modulo 2^32, is the offset"
+  -- what has gone to each side is the reading of the setup and the history; "its length minus the octets taken from the other side, modulo
+  -- 2^32, is the offset"
   pub record Kept (su : Setup) (l : List Made) (z : g .Session) : Type 0 where
     pub toServer : goneToServer l ≡ readServer su (textOf client (historyOf l)) (hasEnded client (historyOf l))
     pub toClient : goneToClient l ≡ readClient su (historyOf l)
@@ -113,7 +120,7 @@ module _ (g : Gateway) where
   -- ---- its consequences
 
   -- calls from a fresh session
-  pub record Told (su : Setup) (l : List Made) : Type 0 where
+  pub record FromFresh (su : Setup) (l : List Made) : Type 0 where
     pub first : g .Session
     pub last : g .Session
     pub fresh : g .Fresh su first
@@ -122,13 +129,13 @@ module _ (g : Gateway) where
   -- wherever the pieces were cut, whatever the rooms: the same history has sent the same octets to both sides
   abbrev pub SameHistory : Type 0
   SameHistory =
-      (su : Setup) (l m : List Made) → Told su l → Told su m → historyOf l ≡ historyOf m
+      (su : Setup) (l m : List Made) → FromFresh su l → FromFresh su m → historyOf l ≡ historyOf m
       → (goneToServer l ≡ goneToServer m) × (goneToClient l ≡ goneToClient m)
 
   -- whatever the server sent: the same client text and end have sent the server the same octets
   abbrev pub SameClient : Type 0
   SameClient =
-      (su : Setup) (l m : List Made) → Told su l → Told su m
+      (su : Setup) (l m : List Made) → FromFresh su l → FromFresh su m
       → textOf client (historyOf l) ≡ textOf client (historyOf m)
       → hasEnded client (historyOf l) ≡ hasEnded client (historyOf m)
       → goneToServer l ≡ goneToServer m
@@ -136,15 +143,28 @@ module _ (g : Gateway) where
   -- until the client's end, more client octets only add to what has gone to the server
   abbrev pub OnlyAdds : Type 0
   OnlyAdds =
-      (su : Setup) (l m : List Made) (more : List ℕ) → Told su l → Told su m
+      (su : Setup) (l m : List Made) (more : List ℕ) → FromFresh su l → FromFresh su m
       → hasEnded client (historyOf l) ≡ false
       → textOf client (historyOf m) ≡ textOf client (historyOf l) ++ more
       → (added : List ℕ) × (goneToServer m ≡ goneToServer l ++ added)
 
-  -- a call refused by 3, 4 or 6 leaves the buffers as they were lent, and the list is the same without it
-  pub record Unchanged (r z : g .Session) (l m : List Made) (c : Call) (t : Return (g .Session)) : Type 0 where
+  -- ---- refused calls
+
+  -- "With 3, 4 and 6 nothing is written and the record comes back equal"
+  pub record LeftAlone (r : g .Session) (c : Call) (t : Return (g .Session)) : Type 0 where
+    pub taken : t .taken ≡ 0
+    pub toServer : t .toServer ≡ 0
+    pub toClient : t .toClient ≡ 0
+    pub session : t .session ≡ r
     pub serverBuffer : t .serverBuffer ≡ lentServer c
     pub clientBuffer : t .clientBuffer ≡ lentClient c
+
+  abbrev pub RefusalsLeaveAll : Type 0
+  RefusalsLeaveAll =
+      (r : g .Session) (c : Call) (t : Return (g .Session)) → g .Promise r c t → isRefusal (t .answer) ≡ true → LeftAlone r c t
+
+  -- so a list of calls is the same without a refused one
+  pub record SameWithout (r z : g .Session) (l m : List Made) (c : Call) (t : Return (g .Session)) : Type 0 where
     pub calls : Calls r (l ++ m) z
     pub history : historyOf (l ++ (c, t) ∷ m) ≡ historyOf (l ++ m)
     pub toServer : goneToServer (l ++ (c, t) ∷ m) ≡ goneToServer (l ++ m)
@@ -153,4 +173,4 @@ module _ (g : Gateway) where
   abbrev pub RefusedChangesNothing : Type 0
   RefusedChangesNothing =
       (r z : g .Session) (l m : List Made) (c : Call) (t : Return (g .Session))
-      → Calls r (l ++ (c, t) ∷ m) z → isRefusal (t .answer) ≡ true → Unchanged r z l m c t
+      → Calls r (l ++ (c, t) ∷ m) z → isRefusal (t .answer) ≡ true → SameWithout r z l m c t

@@ -80,21 +80,23 @@ front p xs = take (run p xs) xs
 unfoldable pub after : (ℕ → Bool) → List ℕ → List ℕ
 after p xs = drop (run p xs) xs
 
--- without the octets at the end that pass a test
+-- an octet before what is kept, unless it passes the test and nothing is kept
 unfoldable pub keepUnless : Bool → ℕ → List ℕ → List ℕ
 keepUnless true x [] = []
 keepUnless false x [] = x ∷ []
 keepUnless b x (y ∷ ys) = x ∷ y ∷ ys
 
+-- without the octets at the end that pass a test
 unfoldable pub trimEnd : (ℕ → Bool) → List ℕ → List ℕ
 trimEnd p [] = []
 trimEnd p (x ∷ xs) = keepUnless (p x) x (trimEnd p xs)
 
--- the parts between the octets d: one more than there are of them
+-- an octet before the first part
 unfoldable pub ontoFirst : ℕ → List (List ℕ) → List (List ℕ)
 ontoFirst x [] = (x ∷ []) ∷ []
 ontoFirst x (p ∷ ps) = (x ∷ p) ∷ ps
 
+-- the parts between the octets d: one more than there are of them
 unfoldable pub parts : ℕ → List ℕ → List (List ℕ)
 parts d [] = [] ∷ []
 parts d (x ∷ xs) = choose (eqb x d) ([] ∷ parts d xs) (ontoFirst x (parts d xs))

@@ -36,10 +36,11 @@ leavesUnfinished Final = false
 
 -- ---- 227
 
--- one number and k more: "each a whole run of 1 to 3 digits, 0 to 255, single commas between; what follows the sixth run is not looked at"
+-- more numbers, where a comma stands
 unfoldable pub afterComma : List ℕ → Option (List ℕ) → Option (List ℕ)
 afterComma t more = choose (eqb (getD t 0 0) comma) more none
 
+-- one number and k more: "each a whole run of 1 to 3 digits, 0 to 255, single commas between; what follows the sixth run is not looked at"
 unfoldable pub numbers : ℕ → List ℕ → Option (List ℕ)
 numbers zero t = octetNumber (front digit t)
 numbers (suc k) t = let u = after digit t in both (octetNumber (front digit t)) (afterComma u (numbers k (drop 1 u)))
@@ -78,7 +79,7 @@ unfoldable pub passiveGives : List ℕ → PassiveReply → List ℕ
 passiveGives l PassiveReply.Unreadable = unchanged l
 passiveGives l (PassiveReply.Port p) = extendedPassiveLine p
 
--- what it becomes by the kind that it removes, if it is judged whole and no earlier line belongs to its reply
+-- what it becomes by the first kind owed, if it is judged whole and no earlier line belongs to its reply
 unfoldable pub finalGives : Kind → List ℕ → List ℕ
 finalGives Kind.Plain l = unchanged l
 finalGives Kind.TranslatedEpsv l = passiveGives l (passiveReply (content l))

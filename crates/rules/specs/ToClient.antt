@@ -17,7 +17,7 @@ use Rattle.rules.specs.declared.Kind.{Kind}
 use Rattle.rules.specs.declared.ReplyLine.{ReplyLine}
 use Rattle.rules.specs.declared.ReplyLine.the-variants.{GoesOn, Preliminary, Final}
 
--- "each side's unfinished line", "which sides ended or pass at once"
+-- "each side's unfinished line", "which sides ended or pass at once"; a line of 512 octets or more is flowing
 pub data Place : Type 0 where
   inLine : List ℕ → Place
   passing : Place

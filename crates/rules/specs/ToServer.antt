@@ -4,12 +4,10 @@ use mathlib.Core.List.{List, [], _∷_, _++_}
 use Prim.Native.Nat.{ℕ}
 use lib.Dec.{eqb}
 use Rattle.rules.specs.Octets.{lf, choose}
-use Rattle.rules.specs.Answers.{client}
 use Rattle.rules.specs.Setup.{Setup, setupSwitches}
 use Rattle.rules.specs.Lines.{isWhole, startsAuth, unchanged}
 use Rattle.rules.specs.Replies.{isAuth}
 use Rattle.rules.specs.Edition.{ClientLine, LineRules, document01}
-use Rattle.rules.specs.History.{Item, textOf, hasEnded}
 use Rattle.rules.specs.declared.Switches.{Switches}
 use Rattle.rules.specs.declared.Kind.{Kind}
 

@@ -1,4 +1,4 @@
-// The terms of the rules as types, shared by the definitions in specs/ and by the code of the crates above.
+// The terms of the rules as types: the definitions in specs/ go by cases on them, and functions take and return them.
 
 // What a call answers. `answerNumber` gives the number of each case.
 pub enum Answer {
@@ -55,7 +55,7 @@ pub enum EprtArgument {
     Other,
 }
 
-// The three arguments of ALGS.
+// The argument of ALGS: one of its three, or another.
 pub enum AlgsArgument {
     Status64,
     Enable64,

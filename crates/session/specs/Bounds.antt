@@ -1,0 +1,41 @@
+-- "The session": how much one octet writes, and that a call goes on where there is room.
+use mathlib.Core.Path.{_≡_}
+use mathlib.Core.Bool.{true, false}
+use mathlib.Core.List.{List, [], _∷_}
+use mathlib.Core.Option.{none}
+use Prim.Native.Nat.{ℕ, suc, _-_, _≤_}
+use lib.Dec.{leb}
+use lib.ListN.{length}
+use Rattle.rules.specs.Octets.{every}
+use Rattle.rules.specs.Answers.{Side, sideOf, mostOwed, mostToServer, mostToClient, isQueueFull}
+use Rattle.rules.specs.Lines.{judged}
+use Rattle.session.specs.declared.Session.{Session}
+use Rattle.session.specs.Steps.{Step, octetStep}
+use Rattle.session.specs.Calls.{sound, refusalOf, isPassing, stateOf, fixedOf, arrived}
+
+-- what the types of a record's arrays say of it
+pub record Shaped (s : Session) : Type 0 where
+  pub mapped : length (s .mapped) ≡ 4
+  pub octets : every (λ n. leb n 255) (s .mapped) ≡ true
+  pub command : length (s .command) ≡ judged - 1
+  pub reply : length (s .reply) ≡ judged - 1
+  pub kinds : length (s .kinds) ≡ mostOwed
+
+-- "One octet writes at most 512 octets to the server and at most 1,280 to the client"
+pub record WritesAtMost (t : Step) : Type 0 where
+  pub toServer : length (t .toServer) ≤ mostToServer
+  pub toClient : length (t .toClient) ≤ mostToClient
+
+abbrev pub OctetBound : Type 0
+OctetBound =
+    (s : Session) (d : Side) (x : ℕ) → Shaped s → sound s ≡ true
+    → isQueueFull d (isPassing (s .control .client .place)) (s .control .owed) ≡ false
+    → WritesAtMost (octetStep (fixedOf s) d (stateOf s) x)
+
+-- "So a non-empty arrival not refused by 3, 4, 6 or stopped by 1 takes at least one octet when each buffer has 1,280 free"
+abbrev pub Progress : Type 0
+Progress =
+    (s : Session) (d x : ℕ) (xs : List ℕ) (serverRoom clientRoom : ℕ) → Shaped s → refusalOf s d ≡ none
+    → isQueueFull (sideOf d) (isPassing (s .control .client .place)) (s .control .owed) ≡ false
+    → mostToClient ≤ serverRoom → mostToClient ≤ clientRoom
+    → 1 ≤ arrived s d (x ∷ xs) serverRoom clientRoom .called .taken
