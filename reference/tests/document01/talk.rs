@@ -1,0 +1,102 @@
+//! Sessions written as steps, each with what it gives.
+
+use reference::{Gateway, Outcome};
+
+pub const CLIENT: u8 = 0;
+pub const SERVER: u8 = 1;
+
+/// 2001:db8:2::31
+pub const CLIENT_ADDRESS: [u8; 16] = [0x20, 1, 0xd, 0xb8, 0, 2, 0, 0, 0, 0, 0, 0, 0, 0, 0, 0x31];
+pub const MAPPED: [u8; 4] = [192, 0, 2, 31];
+
+/// Setup flags.
+pub const ALL_OFF: u8 = 0;
+pub const EPSV_ON: u8 = 1;
+pub const EPRT_SUPPORTED: u8 = 2;
+pub const EPRT_ON: u8 = 6;
+pub const ALL_ON: u8 = 7;
+
+/// Room that no test fills.
+pub const PLENTY: usize = 1 << 24;
+
+pub const NOT_SUPPORTED: &str = "522 Network protocol not supported\r\n";
+pub const NOT_IMPLEMENTED: &str = "504 Command not implemented for that parameter\r\n";
+pub const PASSIVE: &str = "227 Entering Passive Mode (192,0,2,31,237,19)\r\n";
+pub const EXTENDED_PASSIVE: &str = "229 Entering Extended Passive Mode (|||60691|)\r\n";
+
+#[derive(Debug)]
+pub enum Step<'text> {
+    Client(&'text str),
+    Server(&'text str),
+    ClientEnd,
+    ServerEnd,
+}
+
+/// A step, what it gives to the server, and what to the client.
+pub type Expected<'text> = (Step<'text>, &'text str, &'text str);
+
+/// Runs steps on a fresh session; each must answer 0, take all and give what is expected.
+#[track_caller]
+pub fn check_fresh(flags: u8, steps: &[Expected]) {
+    check(&mut fresh(flags), steps);
+}
+
+/// As `check_fresh`, after the greeting.
+#[track_caller]
+pub fn check_greeted(flags: u8, steps: &[Expected]) {
+    check(&mut greeted(flags), steps);
+}
+
+#[track_caller]
+pub fn check(gateway: &mut Gateway, steps: &[Expected]) {
+    for (number, (step, to_server, to_client)) in steps.iter().enumerate() {
+        let (outcome, length) = run(gateway, step);
+        let given = (text(&outcome.to_server), text(&outcome.to_client));
+        let expected = (to_server.to_string(), to_client.to_string());
+        assert_eq!(given, expected, "step {number}: {step:?}");
+        assert_eq!(
+            (outcome.answer, outcome.taken),
+            (0, length),
+            "step {number}: {step:?}"
+        );
+    }
+}
+
+fn run(gateway: &mut Gateway, step: &Step) -> (Outcome, usize) {
+    match step {
+        Step::Client(said) => (arrive(gateway, CLIENT, said), octets(said).len()),
+        Step::Server(said) => (arrive(gateway, SERVER, said), octets(said).len()),
+        Step::ClientEnd => (gateway.end(CLIENT, PLENTY, PLENTY), 0),
+        Step::ServerEnd => (gateway.end(SERVER, PLENTY, PLENTY), 0),
+    }
+}
+
+pub fn arrive(gateway: &mut Gateway, direction: u8, said: &str) -> Outcome {
+    gateway.arrive(direction, &octets(said), PLENTY, PLENTY)
+}
+
+#[track_caller]
+pub fn fresh(flags: u8) -> Gateway {
+    let (gateway, answer) = Gateway::setup(CLIENT_ADDRESS, MAPPED, flags);
+    assert_eq!(answer, 0);
+    gateway
+}
+
+#[track_caller]
+pub fn greeted(flags: u8) -> Gateway {
+    let mut gateway = fresh(flags);
+    let greeting = "220 hi\r\n";
+    check(&mut gateway, &[(Step::Server(greeting), "", greeting)]);
+    gateway
+}
+
+/// One octet for each character, and back.
+pub fn octets(text: &str) -> Vec<u8> {
+    text.chars()
+        .map(|character| u8::try_from(u32::from(character)).expect("a character of one octet"))
+        .collect()
+}
+
+pub fn text(octets: &[u8]) -> String {
+    octets.iter().map(|&octet| char::from(octet)).collect()
+}
