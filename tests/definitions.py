@@ -1,0 +1,189 @@
+"""The readings of crates/rules, computed on many sessions, give what the reference gateway writes.
+
+Sessions are made by seed, replayed by the reference, and written down as cases of a crate of their own, in a folder outside the repository; the
+checker then computes both readings on each and compares. usage: definitions.py REPLAY [SEED [COUNT]]
+"""
+import pathlib
+import random
+import shutil
+import subprocess
+import sys
+import tempfile
+
+ROOT = pathlib.Path(__file__).resolve().parent.parent
+CLIENT = bytes.fromhex("20010db8000200000000000000000031")
+MAPPED = bytes([192, 0, 2, 31])
+FLAGS = [0, 1, 2, 3, 6, 7, 7, 7]
+BATCH = 8
+ENDINGS = [b"\r\n"] * 6 + [b"\n", b"\n", b"\r\r\n", b" \r\n", b"\t\r\n"]
+COMMANDS = [
+    b"EPSV", b"EPSV ", b"EPSV 2", b"EPSV 02", b"EPSV   2  ", b"EPSV 1", b"EPSV 0", b"EPSV ALL", b"EPSV  all ", b"EPSV ALL x", b"EPSV 2 2",
+    b"EPSV x", b"EPSV\t2", b" EPSV", b"EPSVX", b"EPSV 4294967298", b"EPSV 00000000000000000000002", b"EPSV 2a", b"",
+    b"EPRT |2|2001:db8:2::31|5282|", b"EPRT  |2|2001:DB8:2:0:0::31|65535|  ", b"EPRT |1|192.0.2.31|5282|", b"EPRT |2|2001:db8:2::31|0|",
+    b"EPRT |2|2001:db8:2::31|65536|", b"EPRT |2|2001:db8:2::31|00021|", b"EPRT |2|2001:db8:2::31|000021|", b"EPRT |02|2001:db8:2::31|21|",
+    b"EPRT |2|2001:db8:2::31|21|x", b"EPRT |2|2001:db8:2::32|21|", b"EPRT", b"EPRT x2x2001:db8:2::31x255x", b"EPRT |2|2001:db8:2::0.0.0.49|21|",
+    b"EPRT |2|2001:db8:2:0:0:0:0:31|21|", b"EPRT |2|2001:db8:2:0:0:0:0::31|21|", b"EPRT \x7f2\x7f2001:db8:2::31\x7f21\x7f",
+    b"ALGS STATUS64", b"ALGS ENABLE64", b"ALGS DISABLE64", b"ALGS", b"ALGS STATUS64 x", b"ALGSX STATUS64",
+    b"AUTH TLS", b"AUTH", b"AUTHX", b"NOOP", b"PASV", b"USER x", b"\xffEPSV", b"QUIT",
+]
+REPLIES = [
+    b"220 hi", b"200 ok", b"227 x (192,0,2,31,237,19)", b"227 x (192,0,2,31,0,0)", b"227 =1,2,3,4,5,6", b"227 (1,2,3,4,5,6789)", b"227", b"227 ",
+    b"227 1,2,3,4,5,6,7", b"227 a 4 (1,2,3,4,5,6)", b"227-x (1,2,3,4,5,6)", b"227 (0255,1,1,1,1,1)", b"227 (1,2,3,4,256,1)",
+    b"227 001,02,3,4,019,000", b"229 x (|||5|)", b"150 wait", b"120", b"500 no", b"600 x", b"099 y", b"220x", b"220-multi", b" mid", b"", b"hello",
+    b"234 go", b"22", b"2200 x", b"100-x", b"227\t1,2,3,4,5,6",
+]
+END = {0: "end client", 1: "end server"}
+SAYS = {0: "clientSays", 1: "serverSays"}
+
+
+def in_any_case(r, text):
+    return bytes(x ^ 32 if chr(x).isalpha() and x < 128 and r.random() < 0.5 else x for x in text)
+
+
+def line(r, side):
+    if r.random() < 0.03:  # around the judged length
+        head = r.choice([b"EPSV", b"AUTH ", b"auth x", b"NOOP", b"AUTHX"] if side == 0 else [b"227 1,2,3,4,5,6", b"220-x", b"hello", b"230 y"])
+        return head + b" " * (r.randint(509, 514) - len(head)) + r.choice([b"\n", b"\r\n", b"x\r\n"])
+    text = r.choice(COMMANDS if side == 0 else REPLIES)
+    return (text if side or text.startswith(b"EPRT x") else in_any_case(r, text)) + r.choice(ENDINGS)
+
+
+def session(r):
+    """Entries of a session: a side with octets, or a side that ends."""
+    entries = [(1, b"220 hi\r\n")] if r.random() < 0.75 else []
+    for _ in range(r.randint(2, 8)):
+        side = r.randint(0, 1)
+        if r.random() < 0.06:
+            entries.append((side, None))
+            continue
+        octets = line(r, side)
+        cut = r.randint(0, len(octets))
+        entries.append((side, octets[:cut]))
+        if r.random() < 0.3:
+            entries.append((1 - side, line(r, 1 - side)))
+        if r.random() < 0.9:
+            entries.append((side, octets[cut:]))
+    return r.choice(FLAGS), entries
+
+
+def session_file(flags, entries):
+    bodies = [(4, CLIENT + MAPPED + bytes([flags]))]
+    bodies += [(side + 2, b"") if octets is None else (side, octets) for side, octets in entries]
+    table = b"".join(bytes([kind, 0]) + len(body).to_bytes(2, "big") for kind, body in bodies)
+    return len(bodies).to_bytes(2, "big") + table + b"".join(body for _, body in bodies)
+
+
+def unescaped(field):
+    out, i = bytearray(), 0
+    while field != b"-" and i < len(field):
+        if field[i : i + 1] == b"\\":
+            out.append(int(field[i + 1 : i + 3], 16))
+            i += 3
+        else:
+            out.append(field[i])
+            i += 1
+    return bytes(out)
+
+
+def replayed(replay, flags, entries):
+    """What the reference writes to each side, or None where the session stops on the way."""
+    report = subprocess.run([replay], input=session_file(flags, entries), capture_output=True, check=True).stdout
+    lines = report.splitlines()[1:]
+    if not lines or lines[-1] == b"STOPPED":
+        return None
+    fields = [entry.split(b" ") for entry in lines]
+    return b"".join(unescaped(f[3]) for f in fields), b"".join(unescaped(f[4]) for f in fields)
+
+
+def literal(octets):
+    """A list of octets in antt: quoted where it can be, number by number elsewhere."""
+    pieces, quoted = [], ""
+    for x in octets:
+        if x in (10, 13) or 32 <= x < 127 and x not in (34, 92):
+            quoted += {10: "\\n", 13: "\\r"}.get(x, chr(x))
+        else:
+            pieces += [f'oct "{quoted}"'] * bool(quoted) + [f"({x} ∷ [])"]
+            quoted = ""
+    pieces += [f'oct "{quoted}"'] * bool(quoted)
+    return " ++ (".join(pieces or ["[]"]) + ")" * (len(pieces) - 1 if pieces else 0)
+
+
+def history(entries):
+    pieces = [f"({END[side]} ∷ [])" if octets is None else f"{SAYS[side]} ({literal(octets)})" for side, octets in entries]
+    return " ++ (".join(pieces or ["[]"]) + ")" * (len(pieces) - 1 if pieces else 0)
+
+
+PAGES = ["Octets", "Setup", "Lines", "Address", "Commands", "Replies", "Edition", "History"]
+HEAD = """use mathlib.Core.Path.{_≡_, refl}
+use mathlib.Core.List.{List, [], _∷_, _++_, map}
+use Prim.Native.Nat.{ℕ}
+use Rattle.rules.specs.Octets.{oct}
+use Rattle.rules.specs.Answers.{client, server}
+use Rattle.rules.specs.Setup.{Setup}
+use Rattle.rules.specs.History.{Item, end, textOf, hasEnded}
+use Rattle.rules.specs.ToServer.{toServer, to-server-opened}
+use Rattle.rules.specs.ToClient.{toClient, to-client-opened}
+use Rattle.rules.specs.Exchanges.{clientSays, serverSays, allOn, exchanges-opened}
+""" + "".join(f"use Rattle.rules.specs.{page}.{{{page.lower()}-opened}}\n" for page in PAGES) + """
+pub record Case : Type 0 where
+  pub flags : ℕ
+  pub history : List Item
+
+abbrev pub case : ℕ → List Item → Case
+case f h = record { flags = f; history = h }
+
+abbrev pub Sent : Type 0
+Sent = List ℕ × List ℕ
+
+unfoldable pub read : Case → Sent
+read c =
+    let su : Setup = record { client = allOn .client; mapped = allOn .mapped; flags = c .flags } in
+    (toServer su (textOf client (c .history)) (hasEnded client (c .history)), toClient su (c .history))
+"""
+OPENED = " ".join(f"{page.lower()}-opened" for page in PAGES) + " to-server-opened to-client-opened exchanges-opened read"
+
+
+def crate(folder, cases):
+    for part in ("src", "specs", "proofs"):
+        (folder / part).mkdir(parents=True)
+    (folder / "src" / "lib.rt").write_text("// Cases only.\n")
+    (folder / "specs" / "Lib.antt").write_text("-- no definitions\n")
+    (folder / "proofs" / "Lib.antt").write_text("pub mod Cases\n")
+    text = HEAD
+    for n, start in enumerate(range(0, len(cases), BATCH)):
+        batch = cases[start : start + BATCH]
+        given = "\n    ∷ ".join(f"case {flags} ({history(entries)})" for flags, entries, _ in batch)
+        wanted = "\n    ∷ ".join(f"({literal(sent[0])}, {literal(sent[1])})" for _, _, sent in batch)
+        text += f"\nunfoldable pub given{n} : List Case\ngiven{n} =\n    {given}\n    ∷ []\n"
+        text += f"\nunfoldable pub wanted{n} : List Sent\nwanted{n} =\n    {wanted}\n    ∷ []\n"
+        text += f"\npub agree{n} : map read given{n} ≡ wanted{n}\nunfolding {OPENED} given{n} wanted{n}\nagree{n} = refl\n"
+    (folder / "proofs" / "Cases.antt").write_text(text)
+
+
+def main():
+    replay = pathlib.Path(sys.argv[1]).resolve()
+    seed = int(sys.argv[2]) if len(sys.argv) > 2 else 1
+    count = int(sys.argv[3]) if len(sys.argv) > 3 else 200
+    r = random.Random(seed)
+    cases = []
+    while len(cases) < count:
+        flags, entries = session(r)
+        sent = replayed(replay, flags, entries)
+        if sent is not None:
+            cases.append((flags, entries, sent))
+    with tempfile.TemporaryDirectory() as place:
+        top = pathlib.Path(place)
+        shutil.copytree(ROOT / "crates" / "rules", top / "crates" / "rules")
+        crate(top / "crates" / "cases", cases)
+        (top / "crates.txt").write_text("rules:\ncases: rules\n")
+        result = subprocess.run(["rt", "check", "cases"], cwd=top, capture_output=True, text=True)
+    if result.returncode:
+        print("\n".join(x[:600] for x in result.stdout.splitlines() if "error" in x or "FAILED" in x))
+        print(f"the definitions and the reference differ: seed {seed}, {count} sessions; agreeN is sessions 8N to 8N+7")
+        return 1
+    print(f"{count} sessions of seed {seed}: the definitions give what the reference writes")
+    return 0
+
+
+if __name__ == "__main__":
+    sys.exit(main())
