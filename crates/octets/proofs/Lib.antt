@@ -1,0 +1,7 @@
+-- Laws of the rules' functions that the crates above cite: at an index, for loops over octets, and for chains of tests.
+pub mod Ranges
+pub mod Runs
+pub mod Words
+pub mod Values
+pub mod Joining
+pub mod Choices
