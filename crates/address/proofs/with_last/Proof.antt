@@ -1,0 +1,35 @@
+-- `address::with_last`. No loop: three dots make four parts.
+use mathlib.Core.Path.{_≡_, _∙_}
+use native.Mathlib.Omega.{arith}
+use borrow.Author.Tests.{ne-eqb}
+use borrow.Author.Needs.{needs}
+use lib.ListN.{length}
+use Rattle.rules.specs.Octets.{choose, dot, parts}
+use Rattle.rules.specs.Address.{lastGroup}
+use Rattle.address.proofs.with_last.Statement.{statement}
+use Rattle.address.proofs.with_last.Tie as tie
+
+times-requires : tie.Need-times-requires
+times-requires c κs = search needs
+
+with-dotted-requires : tie.Need-with-dotted-requires
+with-dotted-requires c κs = search needs
+
+with-group-requires : tie.Need-with-group-requires
+with-group-requires c κs = search needs
+
+returns : tie.Need-returns
+unfolding lastGroup choose
+returns c =
+    let four : length (parts dot (c .before .before .before .before .args .text .now)) ≡ 4 = omega (arith, c .before .before .times .ensures) in
+    record { gives = c .with-dotted .ensures .gives ∙ rw four; room = c .with-dotted .ensures .room }
+
+returns-2 : tie.Need-returns-2
+unfolding lastGroup choose
+returns-2 c =
+    let other = ne-eqb (length (parts dot (c .before .before .before .before .args .text .now))) 4 (λ e. c .before .if1 .left (omega (arith, c .before .before .times .ensures))) in
+    record { gives = c .with-group .ensures .gives ∙ rw other; room = c .with-group .ensures .room }
+
+pub with-last-spec : {M : Type 1} → statement M
+with-last-spec =
+    tie.close (tie.spec times-requires with-dotted-requires with-group-requires returns returns-2)

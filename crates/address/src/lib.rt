@@ -1,0 +1,376 @@
+// IPv6 text and the argument of EPRT.
+use octets::Number;
+use octets::find;
+use octets::read_number;
+use rules::EprtArgument;
+ghost use mathlib.Core.Path.{_≡_};
+ghost use mathlib.Core.List.{[], _∷_};
+ghost use mathlib.Core.Option.{none, some};
+ghost use Prim.Native.Nat.{_+_, _<_, _≤_};
+ghost use lib.ListN.{length};
+ghost use lib.Seq.{paste};
+ghost use Rattle.rules.specs.Octets.{choose, colon, dot, parts, equal};
+ghost use Rattle.rules.specs.Address.{hexDigit, hexDigitValue, group as groupOf, both, octetNumber, dotted as dottedOf, lastGroup, groups as groupsOf, half as halfOf, halves as halvesOf, eightGroups, filled as filledOf, ipv6 as ipv6Of};
+ghost use Rattle.rules.specs.Commands.{fieldsArgument, eprtArgument};
+ghost use Rattle.address.specs.Text.{ipv6Read, groupGives, octetsOf, Reads, halvesAt};
+
+// An address that a text writes, or none, and then the octets are zeros.
+pub struct Ipv6Read {
+    pub valid: bool,
+    pub octets: [u8; 16],
+}
+
+// The octets of a group of hex digits.
+pub enum Group {
+    Octets(u8, u8),
+    Nothing,
+}
+
+// The octets read so far, at most sixteen. What is not valid stays so.
+pub struct Reading {
+    pub valid: bool,
+    pub count: usize,
+    pub octets: [u8; 16],
+}
+
+// The value of a hex digit, and 16 for any other octet.
+fn hex_value(x: u8) -> u8
+    ensures { λ r. ⌜ r ≡ choose (hexDigit x) (hexDigitValue x) 16 ⌝ }
+{
+    match x {
+        48..=57 => x - 48,
+        65..=70 => x - 55,
+        97..=102 => x - 87,
+        _ => 16,
+    }
+}
+
+// The two octets that 1 to 4 hex digits write.
+fn hex_group(digits: &[u8]) -> Group
+    ensures { λ r. ⌜ groupOf (now (digits .entry)) ≡ groupGives r ⌝ }
+{
+    if digits.len() == 0 {
+        return Group::Nothing;
+    }
+    if digits.len() > 4 {
+        return Group::Nothing;
+    }
+    let mut value: u32 = 0;
+    let mut i = 0;
+    while i < digits.len() {
+        let digit = hex_value(digits[i]);
+        if digit > 15 {
+            return Group::Nothing;
+        }
+        value = value * 16 + digit as u32;
+        i += 1;
+    }
+    Group::Octets((value / 256) as u8, (value % 256) as u8)
+}
+
+// Nothing is read yet.
+fn nothing_yet() -> Reading
+    ensures { λ r. ⌜ (octetsOf r ≡ some []) × (r .count ≤ 16) ⌝ }
+{
+    Reading {
+        valid: true,
+        count: 0,
+        octets: [0u8; 16],
+    }
+}
+
+// What was read is no address.
+fn refused() -> Reading
+    ensures { λ r. ⌜ (octetsOf r ≡ none) × (r .count ≤ 16) ⌝ }
+{
+    Reading {
+        valid: false,
+        count: 0,
+        octets: [0u8; 16],
+    }
+}
+
+// One octet more.
+fn with_octet(before: Reading, x: u8) -> Reading
+    requires { ⌜ before .count ≤ 16 ⌝ }
+    ensures { λ r. ⌜ Reads r (both (octetsOf before) (some (x ∷ []))) ⌝ }
+{
+    let count = before.count;
+    if !before.valid {
+        return before;
+    }
+    if count > 15 {
+        return refused();
+    }
+    let mut octets = before.octets;
+    octets[count] = x;
+    Reading {
+        valid: true,
+        count: count + 1,
+        octets,
+    }
+}
+
+// The two octets of a group more.
+fn with_group(before: Reading, digits: &[u8]) -> Reading
+    requires { ⌜ before .count ≤ 16 ⌝ }
+    ensures { λ r. ⌜ Reads r (both (octetsOf before) (groupOf (now (digits .entry)))) ⌝ }
+{
+    let Group::Octets(high, low) = hex_group(digits) else {
+        return refused();
+    };
+    with_octet(with_octet(before, high), low)
+}
+
+// The octet of a decimal number more.
+fn with_number(before: Reading, digits: &[u8]) -> Reading
+    requires { ⌜ before .count ≤ 16 ⌝ }
+    ensures { λ r. ⌜ Reads r (both (octetsOf before) (octetNumber (now (digits .entry)))) ⌝ }
+{
+    let Number::Value(value) = read_number(digits, 3, 0, 255) else {
+        return refused();
+    };
+    with_octet(before, value as u8)
+}
+
+// How often x stands in s.
+fn times(s: &[u8], x: u8) -> usize
+    ensures { λ r. ⌜ length (parts x (now (s .entry))) ≡ r + 1 ⌝ }
+{
+    let mut n: usize = 0;
+    let mut i = 0;
+    while i < s.len() {
+        if s[i] == x {
+            n += 1;
+        }
+        i += 1;
+    }
+    n
+}
+
+// The octets of dotted numbers more.
+fn with_dotted(before: Reading, text: &[u8]) -> Reading
+    requires { ⌜ before .count ≤ 16 ⌝ }
+    ensures { λ r. ⌜ Reads r (both (octetsOf before) (dottedOf (parts dot (now (text .entry))))) ⌝ }
+{
+    let mut read = before;
+    let mut i = 0;
+    let mut e = find(text, 0, 46);
+    while e < text.len() {
+        read = with_number(read, &text[i..e]);
+        i = e + 1;
+        e = find(text, i, 46);
+    }
+    with_number(read, &text[i..])
+}
+
+// The octets of the last part of a text more: four dotted numbers, or a group.
+fn with_last(before: Reading, text: &[u8]) -> Reading
+    requires { ⌜ before .count ≤ 16 ⌝ }
+    ensures { λ r. ⌜ Reads r (both (octetsOf before) (lastGroup (now (text .entry)))) ⌝ }
+{
+    if times(text, 46) == 3 {
+        with_dotted(before, text)
+    } else {
+        with_group(before, text)
+    }
+}
+
+// Groups with single colons between; `ends` says that they end the text.
+fn groups(text: &[u8], ends: bool) -> Reading
+    ensures { λ r. ⌜ Reads r (groupsOf ends (parts colon (now (text .entry)))) ⌝ }
+{
+    let mut read = nothing_yet();
+    let mut i = 0;
+    let mut e = find(text, 0, 58);
+    while e < text.len() {
+        read = with_group(read, &text[i..e]);
+        i = e + 1;
+        e = find(text, i, 58);
+    }
+    if ends {
+        with_last(read, &text[i..])
+    } else {
+        with_group(read, &text[i..])
+    }
+}
+
+// One side of `::`: nothing, or groups.
+fn half(text: &[u8], ends: bool) -> Reading
+    ensures { λ r. ⌜ Reads r (halfOf ends (now (text .entry))) ⌝ }
+{
+    if text.len() == 0 {
+        return nothing_yet();
+    }
+    groups(text, ends)
+}
+
+// Where the first `::` stands, or the end of the text.
+fn double_colon(text: &[u8]) -> usize
+    ensures { λ r. ⌜ halvesOf (now (text .entry)) ≡ halvesAt r (now (text .entry)) ⌝ }
+    ensures { λ r. ⌜ (r < length (now (text .entry)) → r + 1 < length (now (text .entry))) ⌝ }
+{
+    let mut i = 0;
+    while i + 1 < text.len() {
+        if text[i] == 58 {
+            if text[i + 1] == 58 {
+                return i;
+            }
+        }
+        i += 1;
+    }
+    text.len()
+}
+
+// An answer that is no address.
+fn no_address() -> Ipv6Read
+    ensures { λ r. ⌜ r ≡ ipv6Read none ⌝ }
+{
+    Ipv6Read {
+        valid: false,
+        octets: [0u8; 16],
+    }
+}
+
+// Without `::` there are sixteen octets.
+fn eight_groups(read: Reading) -> Ipv6Read
+    requires { ⌜ read .count ≤ 16 ⌝ }
+    ensures { λ r. ⌜ r ≡ ipv6Read (eightGroups (octetsOf read)) ⌝ }
+{
+    if !read.valid {
+        return no_address();
+    }
+    if read.count != 16 {
+        return no_address();
+    }
+    let octets = read.octets;
+    Ipv6Read {
+        valid: true,
+        octets,
+    }
+}
+
+// The first n octets of src put into dst from `at` on.
+fn placed(dst: [u8; 16], at: usize, src: [u8; 16], n: usize) -> [u8; 16]
+    requires { ⌜ at + n ≤ 16 ⌝ }
+    ensures { λ r. ⌜ r ≡ paste dst at src n ⌝ }
+{
+    let mut octets = dst;
+    let mut i = 0;
+    while i < n {
+        octets[at + i] = src[i];
+        i += 1;
+    }
+    octets
+}
+
+// With `::` there are zeros, for one group at least, between its two sides.
+fn filled(before: Reading, after: Reading) -> Ipv6Read
+    requires { ⌜ (before .count ≤ 16) × (after .count ≤ 16) ⌝ }
+    ensures { λ r. ⌜ r ≡ ipv6Read (filledOf (octetsOf before) (octetsOf after)) ⌝ }
+{
+    if !before.valid {
+        return no_address();
+    }
+    if !after.valid {
+        return no_address();
+    }
+    let m = before.count;
+    let n = after.count;
+    if m + n > 14 {
+        return no_address();
+    }
+    let head = before.octets;
+    let tail = after.octets;
+    let octets = placed(placed([0u8; 16], 0, head, m), 16 - n, tail, n);
+    Ipv6Read {
+        valid: true,
+        octets,
+    }
+}
+
+// The address that a text writes.
+pub fn ipv6(text: &[u8]) -> Ipv6Read
+    ensures { λ r. ⌜ r ≡ ipv6Read (ipv6Of (now (text .entry))) ⌝ }
+{
+    let at = double_colon(text);
+    if at < text.len() {
+        let rest = at + 2;
+        return filled(half(&text[..at], false), half(&text[rest..], true));
+    }
+    eight_groups(groups(text, true))
+}
+
+// Whether two addresses are the same.
+pub fn same_address(a: [u8; 16], b: [u8; 16]) -> bool
+    ensures { λ r. ⌜ r ≡ equal a b ⌝ }
+{
+    let mut i = 0;
+    while i < 16 {
+        if a[i] != b[i] {
+            return false;
+        }
+        i += 1;
+    }
+    true
+}
+
+// The port of three fields that are 2, the client's own address and a port. Whatever else a field says leaves at once.
+fn fields_argument(protocol: &[u8], address: &[u8], port: &[u8], client: [u8; 16]) -> EprtArgument
+    ensures { λ r. ⌜ r ≡ fieldsArgument client (some (now (protocol .entry), now (address .entry), now (port .entry))) ⌝ }
+{
+    if protocol.len() != 1 {
+        return EprtArgument::Other;
+    }
+    if protocol[0] != 50 {
+        return EprtArgument::Other;
+    }
+    let read = ipv6(address);
+    if !read.valid {
+        return EprtArgument::Other;
+    }
+    let octets = read.octets;
+    if !same_address(octets, client) {
+        return EprtArgument::Other;
+    }
+    let Number::Value(value) = read_number(port, 5, 1, 65535) else {
+        return EprtArgument::Other;
+    };
+    EprtArgument::Port(value as u16)
+}
+
+// The port of an argument that names the client's own address: three fields between four delimiters, and nothing after the last.
+pub fn eprt_argument(argument: &[u8], client: [u8; 16]) -> EprtArgument
+    ensures { λ r. ⌜ r ≡ eprtArgument client (now (argument .entry)) ⌝ }
+{
+    if argument.len() == 0 {
+        return EprtArgument::Other;
+    }
+    let delimiter = argument[0];
+    if delimiter < 33 {
+        return EprtArgument::Other;
+    }
+    if delimiter > 126 {
+        return EprtArgument::Other;
+    }
+    let second = find(argument, 1, delimiter);
+    if second >= argument.len() {
+        return EprtArgument::Other;
+    }
+    let address = second + 1;
+    let third = find(argument, address, delimiter);
+    if third >= argument.len() {
+        return EprtArgument::Other;
+    }
+    let port = third + 1;
+    let fourth = find(argument, port, delimiter);
+    if fourth + 1 != argument.len() {
+        return EprtArgument::Other;
+    }
+    fields_argument(
+        &argument[1..second],
+        &argument[address..third],
+        &argument[port..fourth],
+        client,
+    )
+}
