@@ -1,0 +1,3 @@
+-- Laws for functions that choose by tests, for the EPSV argument, and for a line by its parts.
+pub mod Digits
+pub mod Words
