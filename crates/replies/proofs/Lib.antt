@@ -1,0 +1,5 @@
+-- Laws of the rules about server lines.
+pub mod Codes
+pub mod Flowing
+pub mod Numbers
+pub mod Reading
