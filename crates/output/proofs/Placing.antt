@@ -1,0 +1,78 @@
+-- Octets placed in a buffer, and one text placed after another.
+use mathlib.Core.Path.{_≡_, refl, sym, ap, _∙_}
+use mathlib.Core.Bool.{Bool, true, false, not}
+use mathlib.Core.List.{List, _++_, append-assoc}
+use Prim.Native.Nat.{ℕ, _+_, _<_, _≤_}
+use native.Mathlib.Nat.{add-assoc}
+use native.Mathlib.Omega.{arith}
+use lib.ListN.{length, take, drop, length-append, length-drop}
+use lib.Seq.{length-take-le, take-at, drop-append-add, drop-drop}
+use lib.Dec.{leb}
+use borrow.Author.Tests.{le-leb, lt-leb, leb-true, leb-false, not-true, not-false}
+use Rattle.rules.specs.Octets.{choose}
+use Rattle.output.specs.Buffer.{fitsAt, placed, placeAfter, PlacedInRoom}
+
+-- what each writer ensures: the next place, and the buffer then
+abbrev pub Wrote : List ℕ → ℕ → List ℕ → ℕ → List ℕ → Type 0
+Wrote out at line next after = (next ≡ placeAfter out at line) × (after ≡ placed out at line)
+
+module _ (out : List ℕ) (at : ℕ) (line : List ℕ) where
+  pub placed-fits : at + length line ≤ length out → placed out at line ≡ take at out ++ (line ++ drop (at + length line) out)
+  unfolding placed fitsAt choose
+  placed-fits h = rw (le-leb (at + length line) (length out) h)
+
+  pub after-fits : at + length line ≤ length out → placeAfter out at line ≡ at + length line
+  unfolding placeAfter fitsAt choose
+  after-fits h = rw (le-leb (at + length line) (length out) h)
+
+  pub no-room : length out < at + length line → Wrote out at line at out
+  unfolding placed placeAfter fitsAt choose
+  no-room h = rw (lt-leb (at + length line) (length out) h) (refl, refl)
+
+  length-head : at + length line ≤ length out → length (take at out ++ line) ≡ at + length line
+  length-head h = rw (length-append, length-take-le at out (omega arith))
+
+  -- the buffer as what stands before the next place, and what follows
+  pub placed-split : at + length line ≤ length out → placed out at line ≡ (take at out ++ line) ++ drop (at + length line) out
+  placed-split h = placed-fits h ∙ sym (append-assoc (take at out) line (drop (at + length line) out))
+
+  pub length-placed : at + length line ≤ length out → length (placed out at line) ≡ length out
+  length-placed h = rw (placed-split h, length-append, length-head h, length-drop) (omega arith)
+
+  pub take-placed : at + length line ≤ length out → take (at + length line) (placed out at line) ≡ take at out ++ line
+  take-placed h = rw (placed-split h) (take-at (take at out ++ line) (drop (at + length line) out) (at + length line) (length-head h))
+
+  pub drop-placed : (k : ℕ) → at + length line ≤ length out → drop (at + length line + k) (placed out at line) ≡ drop (at + length line + k) out
+  drop-placed k h = rw (placed-split h, ← length-head h, drop-append-add, drop-drop)
+
+-- b placed after a is a ++ b placed
+pub placed-after : (out : List ℕ) (at : ℕ) (a b : List ℕ) → at + length (a ++ b) ≤ length out
+    → placed (placed out at a) (at + length a) b ≡ placed out at (a ++ b)
+placed-after out at a b h =
+    let sum = length-append a b in
+    let first : at + length a ≤ length out = omega arith in
+    let second : at + length a + length b ≤ length (placed out at a) = omega (arith, length-placed out at a first) in
+    rw (placed-fits (placed out at a) (at + length a) b second, take-placed out at a first, drop-placed out at a (length b) first, placed-fits out at (a ++ b) h, sum, ← add-assoc at (length a) (length b))
+    (simp append-assoc)
+
+-- the same of the promises of two writers
+pub joined : (out : List ℕ) (at : ℕ) (a b : List ℕ) {after last : List ℕ} {next end : ℕ} → PlacedInRoom out at a next after
+    → PlacedInRoom after next b end last → PlacedInRoom out at (a ++ b) end last
+joined out at a b {after} {last} {next} {end} one two h =
+    let sum = length-append a b in
+    let first : at + length a ≤ length out = omega arith in
+    let w = one first in
+    let place : next ≡ at + length a = w .0 ∙ after-fits out at a first in
+    let size : length after ≡ length out = ap length (w .1) ∙ length-placed out at a first in
+    let second : next + length b ≤ length after = omega arith in (
+      two second .0 ∙ rw (after-fits after next b second, after-fits out at (a ++ b) h) (omega arith),
+      two second .1 ∙ rw (w .1, place) (placed-after out at a b h),
+    )
+
+-- what the test of the room says of a line of n octets
+module _ (out : List ℕ) (at : ℕ) (line : List ℕ) {n : ℕ} {fits : Bool} (tested : fits ≡ leb (at + n) (length out)) (size : n ≡ length line) where
+  pub refused : not fits ≡ true → Wrote out at line at out
+  refused t = no-room out at line (omega (arith, leb-false (at + n) (length out) (sym tested ∙ not-true fits t)))
+
+  pub room : not fits ≡ false → at + length line ≤ length out
+  room t = omega (arith, leb-true (at + n) (length out) (sym tested ∙ not-false fits t))
