@@ -1,6 +1,7 @@
 """The documents say only what is there, and docs/TRACE.md leaves no sentence of document 01's rules out.
 
-- A name such as `Octets.run` must be declared in a module Octets of some crate's specs/ or proofs/; a relative link must lead to a file.
+- A name such as `Octets.run` must be declared in a module Octets of some crate's specs/ or proofs/, one such as `lines::content` must be a
+  public function of the crate `lines`; a relative link must lead to a file.
 - The first cell of each row of docs/TRACE.md is words of document 01 (`..` stands for words left out; a cell in brackets is ours), and
   together the rows cover the sections traced.
 - Every definition of the crate that a reader has to believe stands in docs/TRACE.md.
@@ -93,6 +94,10 @@ def faults():
         for module, name in re.findall(r"`([A-Z]\w+)\.([^`\s.{}]+)`", text):
             if name not in known.get(module, ()):
                 yield f"{where}: {module}.{name} is not declared"
+        for crate, name in re.findall(r"`([a-z]+)::(\w+)`", text):
+            sources = ROOT.glob(f"crates/{crate}/src/*.rt")
+            if not any(re.search(rf"^pub (?:extern \"C\" )?fn {name}\b", source.read_text(), re.M) for source in sources):
+                yield f"{where}: {crate}::{name} is no public function"
     for title in TRACED:
         yield from untraced(title)
     traced = TRACE.read_text()

@@ -1,0 +1,201 @@
+// Runs the readers and writers of lines on the vectors of its standard input, one on each line: a letter that says which reader, a space, the text.
+// For each it writes what was read, so that the output can be compared with what others read.
+use libc::STDIN_FILENO;
+use libc::STDOUT_FILENO;
+use rules::Command;
+use rules::PassiveReply;
+use rules::ReplyLine;
+use rules::Switches;
+
+// 2001:db8:2::31
+const CLIENT: [u8; 16] = [
+    0x20,
+    0x01,
+    0x0d,
+    0xb8,
+    0,
+    2,
+    0,
+    0,
+    0,
+    0,
+    0,
+    0,
+    0,
+    0,
+    0,
+    0x31,
+];
+
+const MAPPED: [u8; 4] = [192, 0, 2, 31];
+
+// The two halves of an Adler-32, each below 65,521.
+struct Adler {
+    a: u16,
+    b: u16,
+}
+
+fn main() {
+    let mut buffer = io::large_buffer();
+    let n = io::read_full(STDIN_FILENO, &mut buffer);
+    print_lines(&buffer[..n]);
+}
+
+fn print_lines(text: &[u8]) {
+    let mut start = 0;
+    let mut end = octets::find(text, 0, b'\n');
+    while end < text.len() {
+        print_line(&text[start..end]);
+        start = end + 1;
+        end = octets::find(text, start, b'\n');
+    }
+}
+
+// What is made of a vector; nothing of an empty line or a comment.
+fn print_line(line: &[u8]) {
+    if line.len() == 0 {
+        return;
+    }
+    match line[0] {
+        b'#' => {}
+        b'A' => print_sums(),
+        reader => print_vector(reader, line),
+    }
+}
+
+fn print_vector(reader: u8, line: &[u8]) {
+    if line.len() < 2 {
+        return;
+    }
+    let text = &line[2..];
+    if reader == b'6' {
+        print_address(text);
+        return;
+    }
+    let mut out = [0u8; 64];
+    let n = put_line(&mut out, reader, text);
+    io::write_all(STDOUT_FILENO, first(&out, n));
+}
+
+// IPv6 text: its sixteen octets in hexadecimal, or a hyphen.
+fn print_address(text: &[u8]) {
+    let read = address::ipv6(text);
+    if !read.valid {
+        io::write_all(STDOUT_FILENO, b"-\n");
+        return;
+    }
+    let octets = read.octets;
+    print_octets(octets);
+}
+
+fn print_octets(octets: [u8; 16]) {
+    let mut i: usize = 0;
+    while i < 16 {
+        io::print_hex(STDOUT_FILENO, wide(octets[i]), 2);
+        i += 1;
+    }
+    io::write_all(STDOUT_FILENO, b"\n");
+}
+
+fn wide(x: u8) -> u64 {
+    x as u64
+}
+
+fn put_line(out: &mut [u8], reader: u8, text: &[u8]) -> usize {
+    match reader {
+        b'C' => put_command(out, text),
+        b'R' => put_reply_line(out, text),
+        b'P' => put_passive_reply(out, text),
+        _ => output::put(out, 0, b"no such reader\n"),
+    }
+}
+
+// A client line with everything on: the line that takes its place or answers it.
+fn put_command(out: &mut [u8], line: &[u8]) -> usize {
+    let on = Switches {
+        epsv: true,
+        eprt: true,
+    };
+    match commands::command(line, CLIENT, true, on) {
+        Command::Passes => output::put(out, 0, b"passes\n"),
+        Command::Auth => output::put(out, 0, b"passes, AUTH\n"),
+        Command::Passive => output::put_pasv(out, 0),
+        Command::Port(port) => output::put_port_line(out, 0, MAPPED, port),
+        Command::Answered(answer) => output::put_answer(out, 0, answer),
+    }
+}
+
+fn put_reply_line(out: &mut [u8], content: &[u8]) -> usize {
+    match replies::reply_line(content) {
+        ReplyLine::GoesOn => output::put(out, 0, b"goes on\n"),
+        ReplyLine::Preliminary => output::put(out, 0, b"preliminary\n"),
+        ReplyLine::Final => output::put(out, 0, b"final\n"),
+    }
+}
+
+fn put_passive_reply(out: &mut [u8], content: &[u8]) -> usize {
+    match replies::passive_reply(content) {
+        PassiveReply::Port(port) => output::put_extended_passive(out, 0, port),
+        PassiveReply::Unreadable => output::put(out, 0, b"passes\n"),
+    }
+}
+
+// The first n octets.
+fn first(out: &[u8], n: usize) -> &[u8] {
+    if n > out.len() {
+        return out;
+    }
+    &out[..n]
+}
+
+// The sums of the PORT lines of all ports and of their 229 lines.
+fn print_sums() {
+    let start = Adler { a: 1, b: 0 };
+    let mut port_lines = start;
+    let mut passive_lines = start;
+    let mut port: u32 = 0;
+    while port < 65536 {
+        port_lines = with_port_line(port_lines, port as u16);
+        passive_lines = with_extended_passive(passive_lines, port as u16);
+        port += 1;
+    }
+    io::print_decimal(STDOUT_FILENO, number(port_lines));
+    io::write_all(STDOUT_FILENO, b" ");
+    io::print_decimal(STDOUT_FILENO, number(passive_lines));
+    io::write_all(STDOUT_FILENO, b"\n");
+}
+
+fn with_port_line(before: Adler, port: u16) -> Adler {
+    let mut out = [0u8; 64];
+    let n = output::put_port_line(&mut out, 0, MAPPED, port);
+    with_octets(before, first(&out, n))
+}
+
+fn with_extended_passive(before: Adler, port: u16) -> Adler {
+    let mut out = [0u8; 64];
+    let n = output::put_extended_passive(&mut out, 0, port);
+    with_octets(before, first(&out, n))
+}
+
+fn with_octets(before: Adler, octets: &[u8]) -> Adler {
+    let mut sum = before;
+    let mut i = 0;
+    while i < octets.len() {
+        sum = with_octet(sum, octets[i]);
+        i += 1;
+    }
+    sum
+}
+
+fn with_octet(before: Adler, x: u8) -> Adler {
+    let a = (before.a as u32 + x as u32) % 65521;
+    let b = (before.b as u32 + a) % 65521;
+    Adler {
+        a: a as u16,
+        b: b as u16,
+    }
+}
+
+fn number(sum: Adler) -> u64 {
+    sum.b as u64 * 65536 + sum.a as u64
+}

@@ -1,0 +1,98 @@
+//! Reads vectors from standard input, one on each line, and writes what this reference makes of
+//! each: a letter says which reading, then a space and the text. Empty lines and those that begin
+//! with `#` are left out.
+//!
+//! - `6 TEXT`: the sixteen octets of an IPv6 text in hexadecimal, or `-`
+//! - `C LINE`: what becomes of a client line, everything on
+//! - `R CONTENT`: whether a server line ends its reply
+//! - `P CONTENT`: the 229 that a 227 becomes
+//! - `A`: sums of the PORT and 229 lines of all ports
+
+use reference::address;
+use reference::commands::{judge, Addresses, Owed, Switches};
+use reference::replies::{extended_passive, Code};
+use std::io::{self, Read, Write};
+
+const ADDRESSES: Addresses = Addresses {
+    client: [
+        0x20, 0x01, 0x0d, 0xb8, 0, 2, 0, 0, 0, 0, 0, 0, 0, 0, 0, 0x31,
+    ],
+    mapped: [192, 0, 2, 31],
+};
+
+fn main() -> io::Result<()> {
+    let mut vectors = Vec::new();
+    io::stdin().read_to_end(&mut vectors)?;
+    let mut out = io::stdout().lock();
+    for vector in vectors.split(|&octet| octet == b'\n') {
+        let written = match vector {
+            [] | [b'#', ..] => continue,
+            [b'A'] => sums(),
+            [b'6', b' ', text @ ..] => address(text),
+            [b'C', b' ', line @ ..] => command(line),
+            [b'R', b' ', content @ ..] => reply_line(content).to_vec(),
+            [b'P', b' ', content @ ..] => passive_reply(content),
+            other => panic!("no such vector: {}", other.escape_ascii()),
+        };
+        out.write_all(&written)?;
+    }
+    Ok(())
+}
+
+fn address(text: &[u8]) -> Vec<u8> {
+    let written = match address::read(text) {
+        Some(octets) => octets.iter().map(|octet| format!("{octet:02x}")).collect(),
+        None => "-".to_string(),
+    };
+    (written + "\n").into_bytes()
+}
+
+fn command(text: &[u8]) -> Vec<u8> {
+    let line = [text, b"\n"].concat();
+    let mut switches = Switches {
+        epsv: true,
+        eprt_supported: true,
+        eprt: true,
+    };
+    let judged = judge(&line, ADDRESSES, &mut switches);
+    match judged.owed {
+        Owed::Own(answer) => answer.line().to_vec(),
+        Owed::Auth => b"passes, AUTH\n".to_vec(),
+        Owed::Plain if judged.to_server == line => b"passes\n".to_vec(),
+        Owed::Plain | Owed::TranslatedEpsv => judged.to_server,
+    }
+}
+
+fn reply_line(content: &[u8]) -> &'static [u8] {
+    match Code::read(content) {
+        None => b"goes on\n",
+        Some(code) if code.is_final() => b"final\n",
+        Some(_) => b"preliminary\n",
+    }
+}
+
+fn passive_reply(content: &[u8]) -> Vec<u8> {
+    extended_passive(content).unwrap_or_else(|| b"passes\n".to_vec())
+}
+
+/// Port 0 is no port that a line may be read from, so its two lines are written out here.
+fn sums() -> Vec<u8> {
+    let mut ports = b"PORT 192,0,2,31,0,0\r\n".to_vec();
+    let mut passive = b"229 Entering Extended Passive Mode (|||0|)\r\n".to_vec();
+    for port in 1..=65535 {
+        let (high, low) = (port / 256, port % 256);
+        let eprt = format!("EPRT |2|2001:db8:2::31|{port}|");
+        let reply = format!("227 (192,0,2,31,{high},{low})");
+        ports.extend(command(eprt.as_bytes()));
+        passive.extend(passive_reply(reply.as_bytes()));
+    }
+    format!("{} {}\n", adler32(&ports), adler32(&passive)).into_bytes()
+}
+
+fn adler32(octets: &[u8]) -> u32 {
+    let (a, b) = octets.iter().fold((1, 0), |(a, b), &octet| {
+        let a = (a + u32::from(octet)) % 65521;
+        (a, (b + a) % 65521)
+    });
+    b * 65536 + a
+}
