@@ -3,7 +3,7 @@ use mathlib.Core.Bool.{Bool, true, false}
 use mathlib.Core.List.{List, [], _∷_, _++_, map}
 use Prim.Native.Nat.{ℕ, zero, suc, _+_, _-_}
 use lib.Dec.{eqb, leb}
-use lib.ListN.{take, drop, getD}
+use lib.ListN.{take, drop, set, getD}
 use Rattle.rules.specs.Octets.{choose}
 use Rattle.rules.specs.declared.Switches.{Switches}
 use Rattle.rules.specs.declared.OwnAnswer.{OwnAnswer}
@@ -62,11 +62,16 @@ answersAtHead (Kind.TranslatedEpsv ∷ ks) = 0
 answersAtHead (Kind.Own a ∷ ks) = suc (answersAtHead ks)
 answersAtHead (Kind.Auth ∷ ks) = 0
 
+-- a kind is put behind the last one owed
+unfoldable pub pushed : List ℕ → ℕ → Owes → List ℕ
+pushed kinds owed Owes.Nothing = kinds
+pushed kinds owed (Owes.One k) = set kinds owed (codeOf k)
+
 -- the numbers moved n places to the front; those behind the last one owed stay
 unfoldable pub shifted : List ℕ → ℕ → ℕ → List ℕ
 shifted kinds n owed = drop n (take owed kinds) ++ drop (owed - n) kinds
 
 -- this page's definitions, for a proof that computes with them
 unfoldable pub kinds-opened : Unit {0}
-unfolding stateCode answerCode codeOf isListed kindOf queueOf headOf answersAtHead shifted
+unfolding stateCode answerCode codeOf isListed kindOf queueOf headOf answersAtHead pushed shifted
 kinds-opened = tt

@@ -17,7 +17,7 @@ use Rattle.effects.specs.declared.Owes.{Owes}
 use Rattle.effects.specs.declared.ClientEffect.{ClientEffect}
 use Rattle.effects.specs.declared.ServerEffect.{ServerEffect}
 use Rattle.session.specs.declared.Fixed.{Fixed}
-use Rattle.effects.specs.Kinds.{codeOf, queueOf, headOf, answersAtHead, shifted}
+use Rattle.effects.specs.Kinds.{queueOf, headOf, answersAtHead, pushed, shifted}
 use Rattle.effects.specs.Effects.{at, givesText, clientEffect, serverEffect}
 
 -- what octets change: the control, the two arrays of held octets and the array of kinds
@@ -44,11 +44,7 @@ stored line held x Gives.Pasv = line
 stored line held x (Gives.Port p) = line
 stored line held x (Gives.ExtendedPassive p) = line
 
--- ---- the queue: a kind is put behind the last one
-
-unfoldable pub pushed : List ℕ → ℕ → Owes → List ℕ
-pushed kinds owed Owes.Nothing = kinds
-pushed kinds owed (Owes.One k) = set kinds owed (codeOf k)
+-- ---- the queue
 
 unfoldable pub owedThen : ℕ → Owes → ℕ
 owedThen owed Owes.Nothing = owed
@@ -181,5 +177,5 @@ octetStep f server s x = serverStep f s x
 
 -- this page's definitions, for a proof that computes with them
 unfoldable pub steps-opened : Unit {0}
-unfolding stored pushed owedThen flowsOrEnded blocked leaving answersText isAuthNext settledState settledText clientState clientEffectIn clientStep serverState serverEffectIn serverStep octetStep
+unfolding stored owedThen flowsOrEnded blocked leaving answersText isAuthNext settledState settledText clientState clientEffectIn clientStep serverState serverEffectIn serverStep octetStep
 steps-opened = tt
