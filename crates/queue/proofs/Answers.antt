@@ -1,0 +1,98 @@
+-- The queue from a number on: what stands there, and what one own answer at its head adds to the answers behind it.
+use mathlib.Core.Path.{_≡_, refl, sym, ap, _∙_}
+use mathlib.Core.List.{List, [], _∷_, _++_, map}
+use Prim.Native.Nat.{ℕ, suc, _+_, _≤_, _<_}
+use native.Mathlib.Omega.{arith}
+use lib.ListN.{length, take, drop, getD, length-append, length-map, length-take, drop-of-length-le, List·getD-map}
+use lib.Seq.{drop-cons, drop-drop, getD-take}
+use Rattle.rules.specs.Replies.{headAnswers, answerLine}
+use Rattle.rules.specs.declared.Kind.{Kind}
+use Rattle.rules.specs.declared.OwnAnswer.{OwnAnswer}
+use Rattle.output.proofs.Lines.{answer-most}
+use Rattle.effects.specs.Kinds.{kindOf, queueOf, answersAtHead}
+use Rattle.queue.specs.declared.Next.{Next}
+use Rattle.queue.specs.Heads.{answerOf, answerFirst}
+
+module _ (kinds : List ℕ) (i owed : ℕ) where
+  -- behind the last kind owed, and behind the last one that there is room for, there is none
+  pub none-owed : owed ≤ i → drop i (queueOf kinds owed) ≡ []
+  unfolding queueOf
+  none-owed h = drop-of-length-le (map kindOf (take owed kinds)) {i = i} (simp (length-map, length-take) (omega arith))
+
+  pub none-kept : length kinds ≤ i → drop i (queueOf kinds owed) ≡ []
+  unfolding queueOf
+  none-kept h = drop-of-length-le (map kindOf (take owed kinds)) {i = i} (simp (length-map, length-take) (omega arith))
+
+  -- before it there is one
+  pub one-owed : i < owed → i < length kinds → drop i (queueOf kinds owed) ≡ kindOf (getD kinds i 0) ∷ drop (suc i) (queueOf kinds owed)
+  unfolding queueOf
+  one-owed h k =
+      let within : i < length (map kindOf (take owed kinds)) = simp (length-map, length-take) (omega arith) in
+      drop-cons (map kindOf (take owed kinds)) i (kindOf 0) within
+      ∙ rw (List·getD-map kindOf (take owed kinds) i 0, getD-take owed kinds i 0 h)
+
+  -- what is read off a queue, from the kind that is number i
+  pub at-first : {B : Type 0} (f : List Kind → B) {k : Kind} → i < owed → i < length kinds → k ≡ kindOf (getD kinds i 0)
+      → f (k ∷ drop (suc i) (queueOf kinds owed)) ≡ f (drop i (queueOf kinds owed))
+  at-first f e h k = ap f (ap (λ (x : Kind). x ∷ drop (suc i) (queueOf kinds owed)) k ∙ sym (one-owed e h))
+
+  pub at-none : {B : Type 0} (f : List Kind → B) → drop i (queueOf kinds owed) ≡ [] → f [] ≡ f (drop i (queueOf kinds owed))
+  at-none f e = ap f (sym e)
+
+-- the queue has no more kinds than are owed
+pub length-queue : (kinds : List ℕ) (owed : ℕ) → length (queueOf kinds owed) ≤ owed
+unfolding queueOf
+length-queue kinds owed = simp (length-map, length-take) (omega arith)
+
+pub answers-most : (ks : List Kind) → answersAtHead ks ≤ length ks
+unfolding answersAtHead
+answers-most [] = omega arith
+answers-most (Kind.Plain ∷ ks) = omega arith
+answers-most (Kind.TranslatedEpsv ∷ ks) = omega arith
+answers-most (Kind.Own a ∷ ks) = let h = answers-most ks in omega arith
+answers-most (Kind.Auth ∷ ks) = omega arith
+
+-- no own answer stands at the head
+pub record NoAnswer (ks : List Kind) : Type 0 where
+  pub count : answersAtHead ks ≡ 0
+  pub text : headAnswers ks ≡ []
+
+-- the own answer a stands there, and what follows it is ms
+pub record OneAnswer (a : OwnAnswer) (ks ms : List Kind) : Type 0 where
+  pub count : answersAtHead ks ≡ 1 + answersAtHead ms
+  pub text : headAnswers ks ≡ answerLine a ++ headAnswers ms
+  pub size : length (headAnswers ks) ≡ length (answerLine a) + length (headAnswers ms)
+  pub short : length (answerLine a) ≤ 48
+
+pub none-at-end : (ks : List Kind) → ks ≡ [] → NoAnswer ks
+unfolding answersAtHead headAnswers
+none-at-end ks e = record { count = ap answersAtHead e; text = ap headAnswers e }
+
+pub stops : (ks : List Kind) {n : Next} → n ≡ answerFirst ks → n ≡ Next.Nothing → NoAnswer ks
+unfolding answerOf answerFirst answersAtHead headAnswers
+stops [] e f = record { count = refl; text = refl }
+stops (Kind.Plain ∷ ks) e f = record { count = refl; text = refl }
+stops (Kind.TranslatedEpsv ∷ ks) e f = record { count = refl; text = refl }
+stops (Kind.Own a ∷ ks) e f = let z : _≡_ {A = ℕ} 0 1 = cc in absurd (omega arith)
+stops (Kind.Auth ∷ ks) e f = record { count = refl; text = refl }
+
+first-answer : (a : OwnAnswer) (ks : List Kind) {n : Next} → n ≡ answerFirst ks → n ≡ Next.Answer a → OneAnswer a ks (drop 1 ks)
+unfolding answerOf answerFirst answersAtHead headAnswers
+first-answer a [] e f = let z : _≡_ {A = ℕ} 0 1 = cc in absurd (omega arith)
+first-answer a (Kind.Plain ∷ ks) e f = let z : _≡_ {A = ℕ} 0 1 = cc in absurd (omega arith)
+first-answer a (Kind.TranslatedEpsv ∷ ks) e f = let z : _≡_ {A = ℕ} 0 1 = cc in absurd (omega arith)
+first-answer a (Kind.Own b ∷ ks) e f =
+    let same : b ≡ a = cc in
+    let whole : answerLine b ++ headAnswers ks ≡ answerLine a ++ headAnswers ks = ap (λ (o : OwnAnswer). answerLine o ++ headAnswers ks) same in
+    record {
+      count = omega arith;
+      text = whole;
+      size = ap (λ (l : List ℕ). length l) whole ∙ length-append (answerLine a) (headAnswers ks);
+      short = answer-most a;
+    }
+first-answer a (Kind.Auth ∷ ks) e f = let z : _≡_ {A = ℕ} 0 1 = cc in absurd (omega arith)
+
+-- the own answer at number i of a queue, and those from the next number on
+pub goes-on : (ks : List Kind) (i : ℕ) (a : OwnAnswer) {n : Next} → n ≡ answerFirst (drop i ks) → n ≡ Next.Answer a
+    → OneAnswer a (drop i ks) (drop (i + 1) ks)
+goes-on ks i a e f = rw drop-drop at (first-answer a (drop i ks) e f)

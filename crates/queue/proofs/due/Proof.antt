@@ -1,0 +1,90 @@
+-- `queue::due` meets its contract. The invariant: what is counted, and the answers from number `until` on, make the whole.
+use mathlib.Core.Path.{_≡_, refl, ap}
+use mathlib.Core.List.{List}
+use Prim.Native.Nat.{ℕ, _+_, _*_, _≤_, _-_}
+use native.Mathlib.Omega.{arith}
+use borrow.Author.Needs.{needs}
+use lib.ListN.{length, drop}
+use Rattle.rules.specs.Replies.{headAnswers}
+use Rattle.effects.specs.Kinds.{queueOf, answersAtHead}
+use Rattle.queue.proofs.Answers.{stops, goes-on, none-kept, none-at-end}
+use Rattle.queue.proofs.due.Statement.{statement}
+use Rattle.queue.proofs.due.Tie as tie
+
+abbrev Inv-loop : tie.InvT-loop
+Inv-loop kinds from owed until₀ octets₀ until octets =
+    (from + answersAtHead (drop from (queueOf kinds owed)) ≡ until + answersAtHead (drop until (queueOf kinds owed)))
+    × (length (headAnswers (drop from (queueOf kinds owed))) ≡ octets + length (headAnswers (drop until (queueOf kinds owed))))
+    × (octets + 48 * (16 - until) ≤ 768)
+
+abbrev μ-loop : tie.MeasureT-loop
+μ-loop kinds from owed until₀ octets₀ until octets = 16 - until
+
+loop-holds : tie.Need-loop-holds Inv-loop μ-loop
+loop-holds c = (refl, omega arith, omega arith)
+
+answer-at-requires : tie.Need-answer-at-requires Inv-loop μ-loop
+answer-at-requires c κs = search needs
+
+enum-known-next : tie.Need-enum-known-next Inv-loop μ-loop
+enum-known-next c = search needs
+
+enum-told : tie.Need-enum-told Inv-loop μ-loop
+enum-told c = search needs
+
+returns : tie.Need-returns Inv-loop μ-loop
+returns c =
+    let l = c .before .before .before .before .loop in
+    let s = stops _ (c .before .before .answer-at .ensures) (c .enum-told .given .1) in
+    let z = ap (λ (t : List ℕ). length t) (s .text) in
+    ((omega arith, omega arith), omega arith)
+
+answer-length-requires : tie.Need-answer-length-requires Inv-loop μ-loop
+answer-length-requires c κs = search needs
+
+add-octets : tie.Need-add-octets Inv-loop μ-loop
+add-octets c =
+    let a = c .before .before .before .before .before .before .before .args in
+    let l = c .before .before .before .before .before .before .loop in
+    let t = goes-on (queueOf (a .kinds) (a .owed)) (l .until) _ (c .before .before .before .before .answer-at .ensures) (c .before .before .next .given .1) in
+    omega arith
+
+add-until : tie.Need-add-until Inv-loop μ-loop
+add-until c = omega arith
+
+loop-less : tie.Need-loop-less Inv-loop μ-loop
+loop-less c = omega arith
+
+loop-again : tie.Need-loop-again Inv-loop μ-loop
+loop-again c =
+    let a = c .before .before .before .before .before .before .before .args in
+    let l = c .before .before .before .before .before .before .loop in
+    let t = goes-on (queueOf (a .kinds) (a .owed)) (l .until) _ (c .before .before .before .before .answer-at .ensures) (c .before .before .next .given .1) in
+    (omega arith, omega arith, omega arith)
+
+returns-2 : tie.Need-returns-2 Inv-loop μ-loop
+returns-2 c =
+    let a = c .before .before .args in
+    let l = c .before .loop in
+    let long : length (a .kinds) ≡ 16 = search needs in
+    let s = none-at-end _ (none-kept (a .kinds) (l .until) (a .owed) (omega arith)) in
+    let z = ap (λ (t : List ℕ). length t) (s .text) in
+    ((omega arith, omega arith), omega arith)
+
+pub due-spec : {M : Type 1} → statement M
+due-spec =
+    tie.close
+    (tie.spec
+    Inv-loop
+    μ-loop
+    loop-holds
+    answer-at-requires
+    enum-known-next
+    enum-told
+    returns
+    answer-length-requires
+    add-octets
+    add-until
+    loop-less
+    loop-again
+    returns-2)

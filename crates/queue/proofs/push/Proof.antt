@@ -1,0 +1,60 @@
+-- `queue::push` meets its contract: behind the array's end nothing is set.
+use mathlib.Core.Path.{_≡_, sym, ap, _∙_}
+use mathlib.Core.List.{List}
+use Prim.Native.Nat.{ℕ, _≤_}
+use native.Mathlib.Omega.{arith}
+use borrow.Author.Needs.{needs}
+use lib.ListN.{length, set}
+use lib.Seq.{set-out}
+use Rattle.rules.specs.declared.Kind.{Kind}
+use Rattle.effects.specs.declared.Owes.{Owes}
+use Rattle.effects.specs.Kinds.{codeOf, pushed}
+use Rattle.queue.proofs.push.Statement.{statement}
+use Rattle.queue.proofs.push.Tie as tie
+
+behind : (kinds : List ℕ) (owed : ℕ) {o : Owes} {k : Kind} → length kinds ≤ owed → o ≡ Owes.One k → kinds ≡ pushed kinds owed o
+unfolding pushed
+behind kinds owed {o} {k} h e = sym (ap (pushed kinds owed) e ∙ set-out kinds owed (codeOf k) h)
+
+within : (kinds : List ℕ) (owed : ℕ) {o : Owes} {k : Kind} {n : ℕ} → n ≡ codeOf k → o ≡ Owes.One k → set kinds owed n ≡ pushed kinds owed o
+unfolding pushed
+within kinds owed c e = ap (λ (n : ℕ). set kinds owed n) c ∙ ap (pushed kinds owed) (sym e)
+
+enum-known-owes : tie.Need-enum-known-owes
+enum-known-owes c = search needs
+
+enum-told : tie.Need-enum-told
+enum-told c = search needs
+
+returns : tie.Need-returns
+unfolding pushed
+returns c = search needs
+
+returns-2 : tie.Need-returns-2
+returns-2 c =
+    let a = c .before .before .before .before .args in
+    let long : length (a .kinds) ≡ 16 = search needs in
+    behind (a .kinds) (a .owed) (omega arith) (c .before .before .owes .given .1)
+
+code-of-requires : tie.Need-code-of-requires
+code-of-requires c κs = search needs
+
+array-write-longer : tie.Need-array-write-longer
+array-write-longer c = search needs
+
+returns-3 : tie.Need-returns-3
+returns-3 c =
+    let a = c .before .before .before .before .before .args in
+    within (a .kinds) (a .owed) (c .code-of .ensures) (c .before .before .before .owes .given .1)
+
+pub push-spec : {M : Type 1} → statement M
+push-spec =
+    tie.close
+    (tie.spec
+    enum-known-owes
+    enum-told
+    returns
+    returns-2
+    code-of-requires
+    array-write-longer
+    returns-3)

@@ -1,0 +1,2 @@
+-- What comes first in a queue.
+pub mod Heads

@@ -1,0 +1,120 @@
+// The queue of replies owed, as the record has it: its first kind, the own answers at its head, and a kind put behind the last one.
+ghost use mathlib.Core.Path.{_≡_};
+ghost use Prim.Native.Nat.{_+_, _≤_};
+ghost use lib.ListN.{length, drop};
+ghost use Rattle.rules.specs.Replies.{headAnswers};
+ghost use Rattle.output.specs.Buffer.{placed, placeAfter};
+ghost use Rattle.effects.specs.Kinds.{queueOf, headOf, answersAtHead, pushed};
+ghost use Rattle.queue.specs.Heads.{answerFirst};
+use effects::Owes;
+use effects::code_of;
+use effects::kind_of;
+use output::answer_length;
+use output::put_answer;
+use rules::Kind;
+use rules::OwnAnswer;
+
+// How far the own answers at the head of a queue reach, and how many octets they have in all.
+pub struct AnswersDue {
+    pub until: usize,
+    pub length: usize,
+}
+
+// An own answer that comes next, or none.
+enum Next {
+    Answer(OwnAnswer),
+    Nothing,
+}
+
+// The first kind owed.
+pub fn first_owed(kinds: [u8; 16], owed: usize) -> Owes
+    ensures { λ r. ⌜ r ≡ headOf kinds owed ⌝ }
+{
+    if owed == 0 {
+        return Owes::Nothing;
+    }
+    Owes::One(kind_of(kinds[0]))
+}
+
+// The own answer that is number `i` of the kinds owed.
+fn answer_at(kinds: [u8; 16], i: usize, owed: usize) -> Next
+    ensures { λ r. ⌜ r ≡ answerFirst (drop i (queueOf kinds owed)) ⌝ }
+{
+    if owed <= i {
+        return Next::Nothing;
+    }
+    if 16 <= i {
+        return Next::Nothing;
+    }
+    let kind = kind_of(kinds[i]);
+    match kind {
+        Kind::Own(answer) => Next::Answer(answer),
+        Kind::Plain => Next::Nothing,
+        Kind::TranslatedEpsv => Next::Nothing,
+        Kind::Auth => Next::Nothing,
+    }
+}
+
+// The own answers at the head of what is owed from number `from` on.
+pub fn due(kinds: [u8; 16], from: usize, owed: usize) -> AnswersDue
+    ensures { λ r. ⌜ (r .until ≡ from + answersAtHead (drop from (queueOf kinds owed))) × (r .length ≡ length (headAnswers (drop from (queueOf kinds owed)))) ⌝ }
+    ensures { λ r. ⌜ r .length ≤ 768 ⌝ }
+{
+    let mut until = from;
+    let mut octets = 0;
+    while until < 16 {
+        let next = answer_at(kinds, until, owed);
+        let Next::Answer(answer) = next else {
+            return AnswersDue {
+                until,
+                length: octets,
+            };
+        };
+        octets += answer_length(answer);
+        until += 1;
+    }
+    AnswersDue {
+        until,
+        length: octets,
+    }
+}
+
+// Those answers from `at` on, or nothing where they do not all fit; the next place.
+pub fn put_answers(out: &mut [u8], at: usize, kinds: [u8; 16], from: usize, owed: usize) -> usize
+    ensures { λ r. ⌜ r ≡ placeAfter (now (out .entry)) at (headAnswers (drop from (queueOf kinds owed))) ⌝ }
+    ensures { λ r. ⌜ now (out .exit) ≡ placed (now (out .entry)) at (headAnswers (drop from (queueOf kinds owed))) ⌝ }
+{
+    if out.len() < at {
+        return at;
+    }
+    let answers = due(kinds, from, owed);
+    if out.len() - at < answers.length {
+        return at;
+    }
+    let mut place = at;
+    let mut i = from;
+    while i < 16 {
+        let next = answer_at(kinds, i, owed);
+        let Next::Answer(answer) = next else {
+            return place;
+        };
+        place = put_answer(out, place, answer);
+        i += 1;
+    }
+    place
+}
+
+// A kind is put behind the last one owed.
+pub fn push(kinds: [u8; 16], owed: usize, owes: Owes) -> [u8; 16]
+    ensures { λ r. ⌜ r ≡ pushed kinds owed owes ⌝ }
+{
+    let Owes::One(kind) = owes else {
+        return kinds;
+    };
+    if 16 <= owed {
+        return kinds;
+    }
+    let mut longer = kinds;
+    longer[owed] = code_of(kind);
+    longer
+}
