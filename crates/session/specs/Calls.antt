@@ -33,7 +33,7 @@ use Rattle.session.specs.declared.Session.{Session}
 use Rattle.session.specs.declared.Written.{Written}
 use Rattle.session.specs.declared.Prepared.{Prepared}
 use Rattle.session.specs.declared.Called.{Called}
-use Rattle.session.specs.declared.Offset.{Offset}
+use Rattle.session.specs.declared.DirectionOffset.{DirectionOffset}
 use Rattle.effects.specs.Kinds.{isListed}
 use Rattle.effects.specs.Effects.{at}
 use Rattle.session.specs.Steps.{State, Step, octetStep}
@@ -290,10 +290,10 @@ ended s d serverRoom clientRoom =
 
 -- ---- offsets
 
-unfoldable pub offset : Session → ℕ → Offset
-offset s zero = Offset.Is (offsetOf (s .up .written) (s .up .taken))
-offset s (suc zero) = Offset.Is (offsetOf (s .down .written) (s .down .taken))
-offset s (suc (suc d)) = Offset.UnknownDirection
+unfoldable pub offset : Session → ℕ → DirectionOffset
+offset s zero = DirectionOffset.Is (offsetOf (s .up .written) (s .up .taken))
+offset s (suc zero) = DirectionOffset.Is (offsetOf (s .down .written) (s .down .taken))
+offset s (suc (suc d)) = DirectionOffset.UnknownDirection
 
 -- this page's definitions, for a proof that computes with them
 unfoldable pub calls-opened : Unit {0}

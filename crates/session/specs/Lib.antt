@@ -2,3 +2,5 @@
 pub mod Steps
 pub mod Calls
 pub mod Bounds
+pub mod Core
+pub mod Refused

@@ -1,7 +1,25 @@
-// The session's record, and what its calls return.
+// The session: setup, arrival, end and offsets, for every record and every buffer.
+ghost use mathlib.Core.Path.{_≡_};
+ghost use mathlib.Core.List.{_++_};
+ghost use lib.Dec.{leb};
+ghost use lib.ListN.{length, drop};
+ghost use Prim.Native.Nat.{_≤_};
+ghost use Rattle.rules.specs.Answers.{wrapped, client as clientSide, server as serverSide};
+ghost use Rattle.session.specs.Calls.{prepared, startSession, startControl, deadSession, stateOf, arrived, endStep, endOutcome, ended, refused as refusedOutcome, counted as countedBy, sessionAfter, offset as offsetIn};
+ghost use Rattle.session.specs.Core.{stateFrom, sideIf};
 use effects::Direction;
+use effects::Place;
+use output::put;
+use refusing::Refusal;
+use refusing::refusal_of;
 use rules::Answer;
 use rules::Switches;
+use taking::take;
+
+mod octet;
+mod refusing;
+mod settling;
+mod taking;
 
 // What the session does next, apart from the octets held and the kinds owed.
 pub struct Control {
@@ -60,7 +78,316 @@ pub struct Called {
 }
 
 // A direction's offset, for a direction that there is.
-pub enum Offset {
+pub enum DirectionOffset {
     Is(u32),
     UnknownDirection,
+}
+
+// A session from the client's address, its mapped address and the flags.
+pub fn setup(client: [u8; 16], mapped: [u8; 4], flags: u8) -> Prepared
+    ensures { λ r. ⌜ r ≡ prepared client mapped flags ⌝ }
+{
+    let epsv = flags & 1 == 1;
+    let supported = (flags >> 1) & 1 == 1;
+    let eprt = (flags >> 2) & 1 == 1;
+    if flags >> 3 != 0 {
+        return refused_setup();
+    }
+    if eprt && !supported {
+        return refused_setup();
+    }
+    Prepared {
+        answer: Answer::Done,
+        session: start(true, client, mapped, supported, Switches { epsv, eprt }, 1),
+    }
+}
+
+// A session in which nothing is held yet and nothing counted.
+fn start(
+    live: bool,
+    client: [u8; 16],
+    mapped: [u8; 4],
+    supported: bool,
+    switches: Switches,
+    owed: usize,
+) -> Session
+    ensures { λ r. ⌜ r ≡ startSession live client mapped supported (startControl switches owed) ⌝ }
+{
+    let direction = Direction {
+        place: Place::Holding,
+        held: 0,
+    };
+    let control = Control {
+        switches,
+        client: direction,
+        server: direction,
+        owed,
+        unfinished: false,
+    };
+    let none = Counts {
+        taken: 0,
+        written: 0,
+    };
+    Session {
+        live,
+        client,
+        mapped,
+        supported,
+        control,
+        command: [0u8; 511],
+        reply: [0u8; 511],
+        kinds: [0u8; 16],
+        up: none,
+        down: none,
+    }
+}
+
+fn refused_setup() -> Prepared
+    ensures { λ r. ⌜ r ≡ record { answer = Answer.BadSetup; session = deadSession } ⌝ }
+{
+    let off = Switches {
+        epsv: false,
+        eprt: false,
+    };
+    Prepared {
+        answer: Answer::BadSetup,
+        session: start(false, [0u8; 16], [0u8; 4], false, off, 0),
+    }
+}
+
+// Octets of a direction arrive; what they give goes into the two buffers.
+pub fn arrive(
+    session: Session,
+    direction: u8,
+    octets: &[u8],
+    to_server: &mut [u8],
+    to_client: &mut [u8],
+) -> Called
+    ensures { λ r. ⌜ r ≡ arrived session direction (now (octets .entry)) (length (now («to_server» .entry))) (length (now («to_client» .entry))) .called ⌝ }
+    ensures { λ r. ⌜ now («to_server» .exit) ≡ arrived session direction (now (octets .entry)) (length (now («to_server» .entry))) (length (now («to_client» .entry))) .toServer ++ drop (r .written .server) (now («to_server» .entry)) ⌝ }
+    ensures { λ r. ⌜ now («to_client» .exit) ≡ arrived session direction (now (octets .entry)) (length (now («to_server» .entry))) (length (now («to_client» .entry))) .toClient ++ drop (r .written .client) (now («to_client» .entry)) ⌝ }
+{
+    if let Refusal::By(answer) = refusal_of(session, direction) {
+        return refused(answer, session);
+    }
+    let from_client = direction == 0;
+    let client = session.client;
+    let mapped = session.mapped;
+    let fixed = Fixed {
+        client,
+        mapped,
+        supported: session.supported,
+    };
+    let control = session.control;
+    let kinds = session.kinds;
+    let mut command = session.command;
+    let mut reply = session.reply;
+    let t = take(
+        fixed,
+        from_client,
+        control,
+        kinds,
+        octets,
+        &mut command,
+        &mut reply,
+        to_server,
+        to_client,
+    );
+    let then = t.control;
+    let left = t.kinds;
+    let written = t.written;
+    let answer = t.answer;
+    Called {
+        answer,
+        taken: t.taken,
+        written,
+        session: after(
+            session,
+            from_client,
+            t.taken,
+            written,
+            then,
+            command,
+            reply,
+            left,
+        ),
+    }
+}
+
+// A call that is refused: nothing taken, nothing written, the record as it came.
+fn refused(answer: Answer, session: Session) -> Called
+    ensures { λ r. ⌜ r ≡ refusedOutcome answer session .called ⌝ }
+{
+    let written = Written {
+        server: 0,
+        client: 0,
+    };
+    Called {
+        answer,
+        taken: 0,
+        written,
+        session,
+    }
+}
+
+// The record after a call on a direction.
+fn after(
+    session: Session,
+    from_client: bool,
+    taken: usize,
+    written: Written,
+    control: Control,
+    command: [u8; 511],
+    reply: [u8; 511],
+    kinds: [u8; 16],
+) -> Session
+    ensures { λ r. ⌜ r ≡ sessionAfter session (sideIf «from_client») taken (written .server) (written .client) (stateFrom control command reply kinds) ⌝ }
+{
+    let client = session.client;
+    let mapped = session.mapped;
+    let sent = session.up;
+    let answered = session.down;
+    let mut from_there = taken;
+    let mut from_here = 0;
+    if from_client {
+        from_there = 0;
+        from_here = taken;
+    }
+    let up = counted(sent, from_here, written.server);
+    let down = counted(answered, from_there, written.client);
+    Session {
+        live: session.live,
+        client,
+        mapped,
+        supported: session.supported,
+        control,
+        command,
+        reply,
+        kinds,
+        up,
+        down,
+    }
+}
+
+// Counts that advance and wrap.
+fn counted(counts: Counts, taken: usize, written: usize) -> Counts
+    ensures { λ r. ⌜ r ≡ countedBy counts taken written ⌝ }
+{
+    Counts {
+        taken: std::num::wrapping_add_u32(counts.taken, low_half(taken)),
+        written: std::num::wrapping_add_u32(counts.written, low_half(written)),
+    }
+}
+
+fn low_half(n: usize) -> u32
+    ensures { λ r. ⌜ r ≡ wrapped n ⌝ }
+{
+    (n % 4294967296) as u32
+}
+
+// A direction ends: its held octets pass.
+pub fn end(session: Session, direction: u8, to_server: &mut [u8], to_client: &mut [u8]) -> Called
+    ensures { λ r. ⌜ r ≡ ended session direction (length (now («to_server» .entry))) (length (now («to_client» .entry))) .called ⌝ }
+    ensures { λ r. ⌜ now («to_server» .exit) ≡ ended session direction (length (now («to_server» .entry))) (length (now («to_client» .entry))) .toServer ++ drop (r .written .server) (now («to_server» .entry)) ⌝ }
+    ensures { λ r. ⌜ now («to_client» .exit) ≡ ended session direction (length (now («to_server» .entry))) (length (now («to_client» .entry))) .toClient ++ drop (r .written .client) (now («to_client» .entry)) ⌝ }
+{
+    if let Refusal::By(answer) = refusal_of(session, direction) {
+        return refused(answer, session);
+    }
+    if direction == 0 {
+        return end_client(session, to_server);
+    }
+    end_server(session, to_client)
+}
+
+// The client's direction ends: what is held of its line goes to the server.
+fn end_client(session: Session, to_server: &mut [u8]) -> Called
+    requires { ⌜ session .control .client .held ≤ 511 ⌝ }
+    ensures { λ r. ⌜ r ≡ endOutcome session clientSide (endStep clientSide (stateOf session)) (leb (session .control .client .held) (length (now («to_server» .entry)))) .called ⌝ }
+    ensures { λ r. ⌜ now («to_server» .exit) ≡ endOutcome session clientSide (endStep clientSide (stateOf session)) (leb (session .control .client .held) (length (now («to_server» .entry)))) .toServer ++ drop (r .written .server) (now («to_server» .entry)) ⌝ }
+{
+    let before = session.control;
+    let direction = before.client;
+    let held = direction.held;
+    if to_server.len() < held {
+        return refused(Answer::NoRoom, session);
+    }
+    let command = session.command;
+    let reply = session.reply;
+    let kinds = session.kinds;
+    let written = Written {
+        server: put(to_server, 0, &command[..held]),
+        client: 0,
+    };
+    let switches = before.switches;
+    let server = before.server;
+    let control = Control {
+        switches,
+        client: Direction {
+            place: Place::Ended,
+            held: 0,
+        },
+        server,
+        owed: before.owed,
+        unfinished: before.unfinished,
+    };
+    Called {
+        answer: Answer::Done,
+        taken: 0,
+        written,
+        session: after(session, true, 0, written, control, command, reply, kinds),
+    }
+}
+
+// The server's direction ends: what is held of its line goes to the client.
+fn end_server(session: Session, to_client: &mut [u8]) -> Called
+    requires { ⌜ session .control .server .held ≤ 511 ⌝ }
+    ensures { λ r. ⌜ r ≡ endOutcome session serverSide (endStep serverSide (stateOf session)) (leb (session .control .server .held) (length (now («to_client» .entry)))) .called ⌝ }
+    ensures { λ r. ⌜ now («to_client» .exit) ≡ endOutcome session serverSide (endStep serverSide (stateOf session)) (leb (session .control .server .held) (length (now («to_client» .entry)))) .toClient ++ drop (r .written .client) (now («to_client» .entry)) ⌝ }
+{
+    let before = session.control;
+    let direction = before.server;
+    let held = direction.held;
+    if to_client.len() < held {
+        return refused(Answer::NoRoom, session);
+    }
+    let command = session.command;
+    let reply = session.reply;
+    let kinds = session.kinds;
+    let written = Written {
+        server: 0,
+        client: put(to_client, 0, &reply[..held]),
+    };
+    let switches = before.switches;
+    let client = before.client;
+    let control = Control {
+        switches,
+        client,
+        server: Direction {
+            place: Place::Ended,
+            held: 0,
+        },
+        owed: before.owed,
+        unfinished: before.unfinished,
+    };
+    Called {
+        answer: Answer::Done,
+        taken: 0,
+        written,
+        session: after(session, false, 0, written, control, command, reply, kinds),
+    }
+}
+
+// The offset of a direction: written minus taken, modulo 2^32.
+pub fn offset(session: Session, direction: u8) -> DirectionOffset
+    ensures { λ r. ⌜ r ≡ offsetIn session direction ⌝ }
+{
+    if 2 <= direction {
+        return DirectionOffset::UnknownDirection;
+    }
+    let mut counts = session.up;
+    if direction == 1 {
+        counts = session.down;
+    }
+    DirectionOffset::Is(std::num::wrapping_sub_u32(counts.written, counts.taken))
 }

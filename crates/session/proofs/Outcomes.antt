@@ -1,0 +1,141 @@
+-- What a call promises, from what its parts promise.
+use mathlib.Core.Path.{_≡_, sym, ap, _∙_}
+use mathlib.Core.Bool.{Bool, true, false}
+use mathlib.Core.List.{List, [], _++_}
+use mathlib.Core.Option.{Option, none}
+use Prim.Native.Nat.{ℕ, _≤_, _<_}
+use lib.Dec.{leb, leb·zero}
+use lib.ListN.{length, drop}
+use lib.Seq.{length-take-le}
+use borrow.Author.Tests.{lt-leb}
+use Rattle.rules.specs.Answers.{Side, client, server, sideOf, fits}
+use Rattle.rules.specs.declared.Answer.{Answer}
+use Rattle.session.specs.declared.Called.{Called}
+use Rattle.session.specs.declared.Counts.{Counts}
+use Rattle.session.specs.declared.Session.{Session}
+use Rattle.session.specs.declared.Written.{Written}
+use Rattle.session.specs.declared.refusing.Refusal.{Refusal}
+use Rattle.session.specs.Steps.{State, Step}
+use Rattle.session.specs.Calls.{
+  Took,
+  Outcome,
+  counted,
+  takenFor,
+  takes,
+  fixedOf,
+  stateOf,
+  sessionAfter,
+  refused,
+  refusalOf,
+  unlessRefused,
+  outcome,
+  arrived,
+  endStep,
+  endOutcome,
+  ended,
+}
+use Rattle.session.specs.Core.{Core, coreFrom, coreTook}
+use Rattle.session.specs.Refused.{refusalBy}
+use Rattle.session.proofs.Tests.{with-true}
+use Rattle.session.proofs.Sides.{not-zero}
+use Rattle.session.proofs.Refusals.{by-answer}
+use Rattle.session.proofs.Placing.{front-placed}
+use Rattle.session.proofs.Fits.{takes-fit}
+
+-- a call's result r, and its buffers before and after
+abbrev pub Promised : Outcome → Called → List ℕ → List ℕ → List ℕ → List ℕ → Type 0
+Promised w r out other out′ other′ =
+    (r ≡ w .called) × ((out′ ≡ w .toServer ++ drop (r .written .server) out) × (other′ ≡ w .toClient ++ drop (r .written .client) other))
+
+-- the record after a call, from the two counts
+pub advanced : (s : Session) (d : Side) (n toServer toClient : ℕ) (t : State) {here there : ℕ} {up down : Counts}
+    → here ≡ takenFor client d n → there ≡ takenFor server d n → up ≡ counted (s .up) here toServer → down ≡ counted (s .down) there toClient
+    → _≡_ {A = Session}
+    (record {
+      live = s .live;
+      client = s .client;
+      mapped = s .mapped;
+      supported = s .supported;
+      control = t .control;
+      command = t .command;
+      reply = t .reply;
+      kinds = t .kinds;
+      up = up;
+      down = down;
+    })
+    (sessionAfter s d n toServer toClient t)
+unfolding sessionAfter
+advanced s d n toServer toClient t p q u v = rw (u, v, p, q)
+
+-- ---- refused
+
+promised-refused : (s : Session) (a : Answer) (out other : List ℕ) {r : Called} → r ≡ refused a s .called → Promised (refused a s) r out other out other
+unfolding refused
+promised-refused s a out other e = (e, (rw e, rw e))
+
+pub turned-away : (s : Session) (o : Option Answer) (w : Outcome) (a : Answer) (out other : List ℕ) {q : Refusal} {r : Called} → q ≡ refusalBy o
+    → q ≡ Refusal.By a → r ≡ refused a s .called → Promised (unlessRefused o s w) r out other out other
+unfolding unlessRefused
+turned-away s o w a out other p q e = rw (by-answer o a (sym p ∙ q)) (promised-refused s a out other e)
+
+-- ---- an arrival
+
+-- side is the direction's, which does not refuse
+module _ (s : Session) (d : ℕ) (octets out other : List ℕ) (side : Side) (same : side ≡ sideOf d) (free : refusalOf s d ≡ none) where
+  abbrev pub taking : Took
+  taking = takes (fixedOf s) side (stateOf s) octets (length out) (length other)
+
+  unrefused : arrived s d octets (length out) (length other) ≡ outcome s side taking
+  unfolding arrived unlessRefused
+  unrefused = rw (free, same)
+
+  pub arrives : {a : Answer} {n : ℕ} {t : State} {out′ other′ : List ℕ} {w : Written} {s′ : Session} → a ≡ taking .answer → n ≡ taking .taken
+      → coreFrom t out′ other′ w ≡ coreTook taking out other → s′ ≡ sessionAfter s side n (w .server) (w .client) t
+      → Promised (arrived s d octets (length out) (length other)) (record { answer = a; taken = n; written = w; session = s′ }) out other out′ other′
+  unfolding coreTook outcome
+  arrives {t = t} {w = w} p q k e =
+      let fit = takes-fit (fixedOf s) side (stateOf s) octets (length out) (length other) in
+      let st : t ≡ taking .state = ap (λ (x : Core). x .state) k in
+      let size : w ≡ record { server = length (taking .toServer); client = length (taking .toClient) } = ap (λ (x : Core). x .written) k in (
+        rw (unrefused, e, p, q, st, size),
+        (
+          ap (λ (x : Core). x .serverBuffer) k ∙ rw (unrefused, size) (front-placed out (taking .toServer) (fit .server)),
+          ap (λ (x : Core). x .clientBuffer) k ∙ rw (unrefused, size) (front-placed other (taking .toClient) (fit .client)),
+        ),
+      )
+
+-- ---- an end
+
+pub no-room : (s : Session) (d : Side) (t : Step) (held : ℕ) (out other : List ℕ) {r : Called} → length out < held → r ≡ refused Answer.NoRoom s .called
+    → Promised (endOutcome s d t (leb held (length out))) r out other out other
+unfolding endOutcome
+no-room s d t held out other h e = rw (lt-leb held (length out) h) (promised-refused s Answer.NoRoom out other e)
+
+-- the held octets have gone out
+pub passed-on : (s : Session) (d : Side) (t : Step) {a b : ℕ} {s′ : Session} → a ≡ length (t .toServer) → b ≡ length (t .toClient)
+    → s′ ≡ sessionAfter s d 0 a b (t .state)
+    → record { answer = Answer.Done; taken = 0; written = record { server = a; client = b }; session = s′ } ≡ endOutcome s d t true .called
+unfolding endOutcome outcome
+passed-on s d t p q e = rw (e, p, q)
+
+-- a buffer for which the end has no text is as it was
+pub untouched : (s : Session) (d : Side) (t : Step) (b : Bool) (buffer : List ℕ) {r : Called} → r ≡ endOutcome s d t b .called
+    → (t .toServer ≡ [] → buffer ≡ endOutcome s d t b .toServer ++ drop (r .written .server) buffer)
+    × (t .toClient ≡ [] → buffer ≡ endOutcome s d t b .toClient ++ drop (r .written .client) buffer)
+unfolding endOutcome outcome refused
+untouched s d t true buffer e = (λ p. rw (e, p), λ p. rw (e, p))
+untouched s d t false buffer e = (λ p. rw e, λ p. rw e)
+
+-- which octets an end passes on, and when they have room
+module _ (s : Session) (d : ℕ) (out other : List ℕ) (free : refusalOf s d ≡ none) where
+  pub client-ends : d ≡ 0 → s .control .client .held ≤ length (s .command)
+      → ended s d (length out) (length other) ≡ endOutcome s client (endStep client (stateOf s)) (leb (s .control .client .held) (length out))
+  unfolding ended unlessRefused endStep fits
+  client-ends z h =
+      rw (free, z, length-take-le (s .control .client .held) (s .command) h, leb·zero (length other), with-true (leb (s .control .client .held) (length out)))
+
+  pub server-ends : (d ≡ 0 → ⊥) → s .control .server .held ≤ length (s .reply)
+      → ended s d (length out) (length other) ≡ endOutcome s server (endStep server (stateOf s)) (leb (s .control .server .held) (length other))
+  unfolding ended unlessRefused endStep fits
+  server-ends z h =
+      rw (free, not-zero d z, length-take-le (s .control .server .held) (s .reply) h, leb·zero (length out))

@@ -1,0 +1,16 @@
+-- `session::low_half` meets its contract: 4294967296 is 2 ^ 32.
+use mathlib.Core.Path.{refl}
+use borrow.Author.Needs.{needs}
+use Rattle.rules.specs.Answers.{wrapped}
+use Rattle.session.proofs.low_half.Statement.{statement}
+use Rattle.session.proofs.low_half.Tie as tie
+
+cast-result : tie.Need-cast-result
+cast-result c = search needs
+
+returns : tie.Need-returns
+unfolding wrapped
+returns c = refl
+
+pub low-half-spec : {M : Type 1} → statement M
+low-half-spec = tie.close (tie.spec cast-result returns)

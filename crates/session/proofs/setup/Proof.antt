@@ -1,0 +1,42 @@
+-- `session::setup` meets its contract. Each way out is one law of the flags.
+use mathlib.Core.Path.{_∙_}
+use mathlib.Core.Logic.{⊎-elim}
+use borrow.Author.Needs.{needs}
+use Rattle.session.proofs.Flags.{undefined-flag, unsupported, fresh}
+use Rattle.session.proofs.setup.Statement.{statement}
+use Rattle.session.proofs.setup.Tie as tie
+
+refused-setup-requires : tie.Need-refused-setup-requires
+refused-setup-requires c κs = search needs
+
+returns : tie.Need-returns
+returns c = let a = c .before .before .args in c .refused-setup .ensures ∙ undefined-flag (a .client) (a .mapped) (a .flags) (c .before .if1 .taken)
+
+refused-setup-requires-2 : tie.Need-refused-setup-requires-2
+refused-setup-requires-2 c κs = search needs
+
+returns-2 : tie.Need-returns-2
+returns-2 c =
+    let a = c .before .before .before .before .args in
+    c .refused-setup2 .ensures ∙ unsupported (a .client) (a .mapped) (a .flags) (c .before .before .before .if1 .left) (c .before .before .if2 .taken) (c .before .if3 .taken)
+
+start-requires : tie.Need-start-requires
+start-requires c κs = search needs
+
+returns-3 : tie.Need-returns-3
+returns-3 c =
+    let a = c .before .before .before .args in
+    fresh (a .client) (a .mapped) (a .flags) (c .before .before .if1 .left)
+    (⊎-elim (λ w. rw (w .0 .taken, w .1 .left)) (λ w. rw (w .left)) (c .before .if2 .came))
+    (c .start .ensures)
+
+pub setup-spec : {M : Type 1} → statement M
+setup-spec =
+    tie.close
+    (tie.spec
+    refused-setup-requires
+    returns
+    refused-setup-requires-2
+    returns-2
+    start-requires
+    returns-3)

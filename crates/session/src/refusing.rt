@@ -1,0 +1,108 @@
+// Which calls are refused before an octet is looked at.
+ghost use mathlib.Core.Path.{_≡_};
+ghost use Prim.Native.Nat.{_≤_};
+ghost use lib.ListN.{take};
+ghost use Rattle.rules.specs.Octets.{every};
+ghost use Rattle.effects.specs.Kinds.{isListed};
+ghost use Rattle.rules.specs.Answers.{sideOf};
+ghost use Rattle.session.specs.Calls.{soundDirection, sound as soundIn, isEnded, directionOf, refusalOf};
+ghost use Rattle.session.specs.Refused.{refusalBy};
+use crate::Control;
+use crate::Session;
+use effects::Direction;
+use effects::Place;
+use rules::Answer;
+
+// What refuses a call, if anything does.
+pub enum Refusal {
+    By(Answer),
+    Nothing,
+}
+
+// Every kind owed is listed.
+pub fn kinds_listed(kinds: [u8; 16], owed: usize) -> bool
+    requires { ⌜ owed ≤ 16 ⌝ }
+    ensures { λ r. ⌜ r ≡ every isListed (take owed kinds) ⌝ }
+{
+    let mut i = 0;
+    while i < owed {
+        if 8 < kinds[i] {
+            return false;
+        }
+        i += 1;
+    }
+    true
+}
+
+// A direction holds octets only where it may, and not too many.
+pub fn sound_direction(direction: Direction) -> bool
+    ensures { λ r. ⌜ r ≡ soundDirection direction ⌝ }
+{
+    let place = direction.place;
+    match place {
+        Place::Holding => direction.held <= 511,
+        Place::Flowing => direction.held == 0,
+        Place::Passing => direction.held == 0,
+        Place::Ended => direction.held == 0,
+    }
+}
+
+pub fn sound(session: Session) -> bool
+    ensures { λ r. ⌜ r ≡ soundIn session ⌝ }
+{
+    let control = session.control;
+    if !session.live {
+        return false;
+    }
+    if 16 < control.owed {
+        return false;
+    }
+    let kinds = session.kinds;
+    if !kinds_listed(kinds, control.owed) {
+        return false;
+    }
+    let client = control.client;
+    if !sound_direction(client) {
+        return false;
+    }
+    let server = control.server;
+    sound_direction(server)
+}
+
+pub fn has_ended(direction: Direction) -> bool
+    ensures { λ r. ⌜ r ≡ isEnded (direction .place) ⌝ }
+{
+    let place = direction.place;
+    match place {
+        Place::Ended => true,
+        Place::Holding => false,
+        Place::Flowing => false,
+        Place::Passing => false,
+    }
+}
+
+// The direction of a number, the server's for every number but 0.
+pub fn direction_of(control: Control, number: u8) -> Direction
+    ensures { λ r. ⌜ r ≡ directionOf (sideOf number) control ⌝ }
+{
+    if number == 0 {
+        return control.client;
+    }
+    control.server
+}
+
+pub fn refusal_of(session: Session, direction: u8) -> Refusal
+    ensures { λ r. ⌜ r ≡ refusalBy (refusalOf session direction) ⌝ }
+{
+    if 2 <= direction {
+        return Refusal::By(Answer::UnknownDirection);
+    }
+    if !sound(session) {
+        return Refusal::By(Answer::BadRecord);
+    }
+    let control = session.control;
+    if has_ended(direction_of(control, direction)) {
+        return Refusal::By(Answer::DirectionEnded);
+    }
+    Refusal::Nothing
+}
