@@ -1,0 +1,404 @@
+-- Where a direction of the record stands and where the reading has it, and one octet's effect on both.
+use mathlib.Core.Path.{_≡_, refl, sym, ap, _∙_}
+use mathlib.Core.Bool.{Bool, true, false}
+use mathlib.Core.List.{List, [], _∷_, _++_}
+use Prim.Native.Nat.{ℕ, _+_, _-_, _≤_, _<_}
+use native.Mathlib.Omega.{arith}
+use native.Mathlib.Numerals.{add-one}
+use lib.Dec.{eqb, ltb, lit≤}
+use lib.ListN.{length, take, drop, set, getD, length-set}
+use lib.Seq.{take-suc-set, length-take-le, take-append-le, take-take, getD-take}
+use borrow.Author.Tests.{eqb-true, ltb-true, ltb-false, eq-eqb, ne-eqb}
+use Rattle.rules.specs.Octets.{lf, choose}
+use Rattle.rules.specs.Lines.{judged, startsAuth, content}
+use Rattle.rules.specs.Commands.{command, commandOwes, commandSwitches}
+use Rattle.rules.specs.Replies.{isAuth, endsReply, replyLine, passiveReply}
+use Rattle.rules.specs.Edition.{ClientLine, LineRules}
+use Rattle.rules.specs.ToServer.{finishedLine, longOwes}
+use Rattle.rules.specs.ToClient.{
+  Place as Reading,
+  inLine,
+  passing as readPassing,
+  ended as readEnded,
+  ClientStep,
+  finishes,
+  joins,
+  clientOctet,
+  ServerStep,
+  finalLineGives,
+  wholeLineGives,
+  serverLine,
+  lineOctetGives,
+  lineOctet,
+  serverOctet,
+  held,
+  flowsOrEnded as readFlowsOrEnded,
+  passesFromNow as readPassesFromNow,
+}
+use Rattle.rules.specs.declared.Switches.{Switches}
+use Rattle.rules.specs.declared.Kind.{Kind}
+use Rattle.rules.specs.declared.Command.{Command}
+use Rattle.rules.specs.declared.ReplyLine.{ReplyLine}
+use Rattle.rules.specs.declared.PassiveReply.{PassiveReply}
+use Rattle.effects.specs.declared.Place.{Place}
+use Rattle.effects.specs.declared.Gives.{Gives}
+use Rattle.effects.specs.declared.Owes.{Owes}
+use Rattle.effects.specs.declared.ClientEffect.{ClientEffect}
+use Rattle.effects.specs.declared.ServerEffect.{ServerEffect}
+use Rattle.effects.specs.Effects.{
+  givesText,
+  at,
+  commandEffect,
+  judgedEffect,
+  joinEffect,
+  placeEffect,
+  clientEffectOf,
+  passiveEffect,
+  kindEffect,
+  headEffect,
+  lineGives,
+  wholeLine,
+  flowingLine,
+  replyOctet,
+  replyEffect,
+}
+use Rattle.session.specs.declared.Fixed.{Fixed}
+use Rattle.session.specs.Steps.{stored, flowsOrEnded, passesFromNow}
+use Rattle.history.specs.ByOctets.{lineEndGives, clientGives}
+use Rattle.history.proofs.ByOctets.{
+  six,
+  whole,
+  long,
+  length-snoc,
+  grows,
+  starts,
+  finished-whole,
+  finished-long,
+}
+use Rattle.history.proofs.Queue.{owesList, firstOf, removes-drop, removes-least}
+
+-- ---- the relation
+
+-- place, held count and array of a direction, and its place in the reading. `Kept` says what array and line still share when the line flows
+pub data Stands (Kept : List ℕ → List ℕ → Type 0) : Place → ℕ → List ℕ → Reading → Type 0 where
+  holding : {n : ℕ} {line : List ℕ} → n < judged → Stands Kept Place.Holding n line (inLine (take n line))
+  flowing : {line l : List ℕ} → judged ≤ length l → Kept line l → Stands Kept Place.Flowing 0 line (inLine l)
+  passing : {line : List ℕ} → Stands Kept Place.Passing 0 line readPassing
+  ended : {line : List ℕ} → Stands Kept Place.Ended 0 line readEnded
+
+-- the client's flowing line is no AUTH
+abbrev pub NoAuth : List ℕ → List ℕ → Type 0
+NoAuth line l = startsAuth l ≡ false
+
+-- the array has the first octets of the server's flowing line
+abbrev pub FirstFour : List ℕ → List ℕ → Type 0
+FirstFour line l = take 4 line ≡ take 4 l
+
+-- the length of the arrays
+abbrev pub Full : List ℕ → Type 0
+Full line = length line ≡ judged - 1
+
+module _ {Kept : List ℕ → List ℕ → Type 0} where
+  -- a line begins
+  pub begins : (line : List ℕ) → Stands Kept Place.Holding 0 line (inLine [])
+  begins line = holding {n = 0} {line = line} (omega (arith, six))
+
+  -- one more octet is held
+  pub held-more : (line : List ℕ) (n x : ℕ) → Full line → n + 1 < judged → Stands Kept Place.Holding (n + 1) (set line n x) (inLine (take n line ++ (x ∷ [])))
+  held-more line n x f h =
+      let put : take (n + 1) (set line n x) ≡ take n line ++ (x ∷ []) = rw (add-one n) (take-suc-set line n x (omega arith)) in
+      let now : Stands Kept Place.Holding (n + 1) (set line n x) (inLine (take (n + 1) (set line n x))) = holding h in
+      rw put at now
+
+  -- the held octets
+  pub held-octets : {p : Place} {n : ℕ} {line : List ℕ} {q : Reading} → Stands Kept p n line q → Full line → take n line ≡ held q
+  unfolding held choose
+  held-octets (holding {n = n} {line = line} h) f = rw (whole (take n line) (omega (arith, length-take-le n line (omega arith))))
+  held-octets (flowing {l = l} k g) f = rw (long l k)
+  held-octets passing f = refl
+  held-octets ended f = refl
+
+  pub flows-or-ended : {p : Place} {n : ℕ} {line : List ℕ} {q : Reading} → Stands Kept p n line q → Full line → flowsOrEnded p ≡ readFlowsOrEnded q
+  unfolding flowsOrEnded readFlowsOrEnded
+  flows-or-ended (holding {n = n} {line = line} h) f = rw (whole (take n line) (omega (arith, length-take-le n line (omega arith))))
+  flows-or-ended (flowing {l = l} k g) f = rw (long l k)
+  flows-or-ended passing f = refl
+  flows-or-ended ended f = refl
+
+  -- all octets pass from now on
+  pub passes-on : {p : Place} {n : ℕ} {line : List ℕ} {q : Reading} → Stands Kept p n line q
+      → Stands Kept (passesFromNow (at p n) p .place) (passesFromNow (at p n) p .held) line (readPassesFromNow q)
+  passes-on (holding h) = passing
+  passes-on (flowing k g) = passing
+  passes-on passing = passing
+  passes-on ended = ended
+
+-- the line with which an octet is its last one
+abbrev joined : List ℕ → ℕ → ℕ → List ℕ
+joined line n x = take n line ++ (x ∷ [])
+
+length-joined : (line : List ℕ) (n x : ℕ) → Full line → n < judged → length (joined line n x) ≡ n + 1
+length-joined line n x f h = length-snoc (take n line) x ∙ rw (length-take-le n line (omega arith)) (omega arith)
+
+-- ---- line rules that the session's own page follows
+
+-- what a line judged whole gives, owes and sets, and what a line that ends a final reply becomes
+pub record Agrees (f : Fixed) (rules : LineRules) : Type 0 where
+  pub gives : (sw : Switches) (l : List ℕ) → givesText (f .mapped) l lf (commandEffect (command (f .client) (f .supported) sw l)) ≡ rules .clientLine sw l .toServer
+  pub owes : (sw : Switches) (l : List ℕ) → commandOwes (command (f .client) (f .supported) sw l) ≡ rules .clientLine sw l .owes
+  pub switches : (sw : Switches) (l : List ℕ) → commandSwitches sw (command (f .client) (f .supported) sw l) ≡ rules .clientLine sw l .switches
+  pub final : (k : Kind) (l : List ℕ) → givesText (f .mapped) l lf (kindEffect k (content l)) ≡ rules .finalLine k l
+
+-- ---- the reply that a flowing line belongs to is known by its first four octets
+
+reply-same : (c d : List ℕ) → 3 < length c → 3 < length d → ((i : ℕ) → i < 4 → getD c i 0 ≡ getD d i 0) → replyLine c ≡ replyLine d
+unfolding replyLine endsReply
+reply-same c d hc hd g =
+    rw (g 0 (lit≤ tt), g 1 (lit≤ tt), g 2 (lit≤ tt), g 3 (lit≤ tt), ne-eqb (length c) 3 (λ q. omega arith), ne-eqb (length d) 3 (λ q. omega arith))
+
+reply-shorter : (l : List ℕ) (n : ℕ) → 4 ≤ n → n ≤ length l → replyLine (take n l) ≡ replyLine l
+reply-shorter l n h k =
+    reply-same (take n l) l (omega (arith, length-take-le n l k)) (omega arith) (λ i g. getD-take n l i 0 (omega arith))
+
+reply-either : (l : List ℕ) → judged ≤ length l → (b : Bool) → replyLine (choose b (take (length l - 1) l) l) ≡ replyLine l
+unfolding choose
+reply-either l h true = reply-shorter l (length l - 1) (omega (arith, six)) (omega arith)
+reply-either l h false = refl
+
+reply-content : (l : List ℕ) → judged ≤ length l → replyLine (content l) ≡ replyLine l
+unfolding content
+reply-content l h = reply-either l h (eqb (getD l (length l - 1) 0) 13)
+
+reply-flowing : (line l : List ℕ) → judged ≤ length l → FirstFour line l → replyLine (take 4 line) ≡ replyLine (content l)
+reply-flowing line l h e = rw e (reply-shorter l 4 (lit≤ tt) (omega (arith, six)) ∙ sym (reply-content l h))
+
+-- ---- one octet
+
+-- its effect on the record, and what it gives and does in the reading
+module _ (f : Fixed) where
+  pub record ClientFits (line : List ℕ) (n x : ℕ) (e : ClientEffect) (text : List ℕ) (j : ClientStep) : Type 0 where
+    pub gives : givesText (f .mapped) (take n line) x (e .gives) ≡ text
+    pub switches : e .switches ≡ j .state .switches
+    pub owes : owesList (e .owes) ≡ j .owes
+    pub full : Full (stored line n x (e .gives))
+    pub place : Stands NoAuth (e .direction .place) (e .direction .held) (stored line n x (e .gives)) (j .state .place)
+
+  pub record ServerFits (line : List ℕ) (n x : ℕ) (ks : List Kind) (e : ServerEffect) (t : ServerStep) : Type 0 where
+    pub gives : givesText (f .mapped) (take n line) x (e .gives) ≡ t .gives
+    pub owed : drop (e .removes) ks ≡ t .state .owed
+    pub least : e .removes ≤ length ks
+    pub unfinished : e .unfinished ≡ t .state .unfinished
+    pub full : Full (stored line n x (e .gives))
+    pub place : Stands FirstFour (e .direction .place) (e .direction .held) (stored line n x (e .gives)) (t .state .place)
+
+module _ (f : Fixed) (rules : LineRules) (agree : Agrees f rules) where
+  -- ---- of the client
+
+  stored-command : (line : List ℕ) (n x : ℕ) (k : Command) → stored line n x (commandEffect k) ≡ line
+  unfolding stored commandEffect
+  stored-command line n x Command.Passes = refl
+  stored-command line n x Command.Passive = refl
+  stored-command line n x (Command.Port p) = refl
+  stored-command line n x (Command.Answered a) = refl
+  stored-command line n x Command.Auth = refl
+
+  after-line : (line : List ℕ) (a : Bool) → Stands NoAuth (choose a Place.Passing Place.Holding) 0 line (choose a readPassing (inLine []))
+  unfolding choose
+  after-line line true = passing
+  after-line line false = begins line
+
+  command-fits : (sw : Switches) (line : List ℕ) (n : ℕ) → Full line → (k : Command) (j : ClientLine)
+      → givesText (f .mapped) (take n line) lf (commandEffect k) ≡ j .toServer → commandOwes k ≡ j .owes → commandSwitches sw k ≡ j .switches
+      → ClientFits f line n lf (judgedEffect sw k) (j .toServer) (finishes j)
+  unfolding judgedEffect finishes
+  command-fits sw line n full k j g o w =
+      record {
+        gives = g;
+        switches = w;
+        owes = ap (λ (i : Kind). i ∷ []) o;
+        full = rw (stored-command line n lf k) full;
+        place = rw (stored-command line n lf k, o) (after-line line (isAuth (j .owes)));
+      }
+
+  line-fits : (sw : Switches) (line : List ℕ) (n : ℕ) → Full line → n < judged
+      → ClientFits f line n lf (judgedEffect sw (command (f .client) (f .supported) sw (take n line)))
+      (lineEndGives rules sw (take n line)) (finishes (finishedLine rules sw (take n line)))
+  unfolding lineEndGives choose
+  line-fits sw line n full h =
+      let short : length (take n line) < judged = omega (arith, length-take-le n line (omega arith)) in
+      rw (finished-whole rules sw (take n line) short, whole (take n line) short)
+      (command-fits sw line n full (command (f .client) (f .supported) sw (take n line)) (rules .clientLine sw (take n line))
+      (agree .gives sw (take n line)) (agree .owes sw (take n line)) (agree .switches sw (take n line)))
+
+  -- another octet, with which the line is not yet let go
+  held-fits : (sw : Switches) (line : List ℕ) (n x : ℕ) → Full line → n + 1 < judged
+      → ClientFits f line n x (clientEffectOf Gives.Held (at Place.Holding (n + 1)) sw Owes.Nothing)
+      (lineOctetGives (joined line n x) x) (joins sw (joined line n x))
+  unfolding lineOctetGives joins choose givesText stored
+  held-fits sw line n x full h =
+      let size : length (joined line n x) ≡ n + 1 = length-joined line n x full (omega arith) in
+      rw (whole (joined line n x) (omega arith), ne-eqb (length (joined line n x)) judged (λ q. omega arith))
+      (record { gives = refl; switches = refl; owes = refl; full = length-set line n x ∙ full; place = held-more line n x full h })
+
+  -- the octet that lets the line go, which may be AUTH
+  go-fits : (sw : Switches) (line : List ℕ) (n x : ℕ) → Full line → length (joined line n x) ≡ judged → (a : Bool) → startsAuth (joined line n x) ≡ a
+      → ClientFits f line n x
+      (choose a (clientEffectOf Gives.HeldAndOctet (at Place.Passing 0) sw (Owes.One Kind.Auth)) (clientEffectOf Gives.HeldAndOctet (at Place.Flowing 0) sw Owes.Nothing))
+      (lineOctetGives (joined line n x) x) (joins sw (joined line n x))
+  unfolding lineOctetGives joins choose givesText stored
+  go-fits sw line n x full size true e =
+      rw (long (joined line n x) (omega arith), eq-eqb (length (joined line n x)) judged size, e)
+      (record { gives = refl; switches = refl; owes = refl; full = full; place = passing })
+  go-fits sw line n x full size false e =
+      let flows : judged ≤ length (joined line n x) = omega arith in
+      rw (long (joined line n x) flows, eq-eqb (length (joined line n x)) judged size, e)
+      (record { gives = refl; switches = refl; owes = refl; full = full; place = flowing flows e })
+
+  join-fits : (sw : Switches) (line : List ℕ) (n x : ℕ) → Full line → n < judged → (b : Bool) → ltb (n + 1) judged ≡ b
+      → ClientFits f line n x (joinEffect sw n (take n line)) (lineOctetGives (joined line n x) x) (joins sw (joined line n x))
+  unfolding joinEffect choose
+  join-fits sw line n x full h true p = rw p (held-fits sw line n x full (ltb-true (n + 1) judged p))
+  join-fits sw line n x full h false p =
+      let last : n + 1 ≡ judged = omega (arith, ltb-false (n + 1) judged p) in
+      rw p (go-fits sw line n x full (length-joined line n x full h ∙ last) (startsAuth (take n line))
+      (starts (take n line) (x ∷ []) (omega (arith, six, length-take-le n line (omega arith)))))
+
+  held-octet-fits : (sw : Switches) (line : List ℕ) (n x : ℕ) → Full line → n < judged → (b : Bool) → eqb x lf ≡ b
+      → ClientFits f line n x (placeEffect (f .client) (f .supported) sw Place.Holding n (take n line) b)
+      (choose b (lineEndGives rules sw (take n line)) (lineOctetGives (joined line n x) x))
+      (choose b (finishes (finishedLine rules sw (take n line))) (joins sw (joined line n x)))
+  unfolding placeEffect choose
+  held-octet-fits sw line n x full h true p = rw (eqb-true x lf p) (line-fits sw line n full h)
+  held-octet-fits sw line n x full h false p = join-fits sw line n x full h (ltb (n + 1) judged) refl
+
+  flowing-fits : (sw : Switches) (line l : List ℕ) (x : ℕ) → Full line → judged ≤ length l → startsAuth l ≡ false → (b : Bool) → eqb x lf ≡ b
+      → ClientFits f line 0 x (placeEffect (f .client) (f .supported) sw Place.Flowing 0 [] b)
+      (choose b (lineEndGives rules sw l) (lineOctetGives (l ++ (x ∷ [])) x))
+      (choose b (finishes (finishedLine rules sw l)) (joins sw (l ++ (x ∷ []))))
+  unfolding placeEffect choose lineEndGives finishes longOwes lineOctetGives joins givesText stored
+  flowing-fits sw line l x full k a true p =
+      rw (finished-long rules sw l k, long l k, a, eqb-true x lf p)
+      (record { gives = refl; switches = refl; owes = refl; full = full; place = begins line })
+  flowing-fits sw line l x full k a false p =
+      let more : judged ≤ length (l ++ (x ∷ [])) = grows l (x ∷ []) k in
+      rw (long (l ++ (x ∷ [])) more, ne-eqb (length (l ++ (x ∷ []))) judged (λ q. omega (arith, length-snoc l x)))
+      (record { gives = refl; switches = refl; owes = refl; full = full; place = flowing more (starts l (x ∷ []) (omega (arith, six)) ∙ a) })
+
+  pub client-fits : (sw : Switches) {p : Place} {n : ℕ} {line : List ℕ} {q : Reading} → Stands NoAuth p n line q → Full line → (x : ℕ)
+      → ClientFits f line n x (placeEffect (f .client) (f .supported) sw p n (take n line) (eqb x lf)) (clientGives rules sw q x) (clientOctet rules sw q x)
+  unfolding clientGives clientOctet placeEffect givesText stored
+  client-fits sw (holding {n = n} {line = line} h) full x = held-octet-fits sw line n x full h (eqb x lf) refl
+  client-fits sw (flowing {line = line} {l = l} k a) full x = flowing-fits sw line l x full k a (eqb x lf) refl
+  client-fits sw passing full x = record { gives = refl; switches = refl; owes = refl; full = full; place = passing }
+  client-fits sw ended full x = record { gives = refl; switches = refl; owes = refl; full = full; place = ended }
+
+  -- ---- of the server
+
+  stored-passive : (line : List ℕ) (n x : ℕ) (r : PassiveReply) → stored line n x (passiveEffect r) ≡ line
+  unfolding stored passiveEffect
+  stored-passive line n x (PassiveReply.Port p) = refl
+  stored-passive line n x PassiveReply.Unreadable = refl
+
+  stored-first : (line : List ℕ) (n x : ℕ) (ks : List Kind) (c : List ℕ) → stored line n x (headEffect (firstOf ks) c) ≡ line
+  unfolding stored headEffect kindEffect
+  stored-first line n x [] c = refl
+  stored-first line n x (Kind.Plain ∷ ks) c = refl
+  stored-first line n x (Kind.TranslatedEpsv ∷ ks) c = stored-passive line n x (passiveReply c)
+  stored-first line n x (Kind.Own a ∷ ks) c = refl
+  stored-first line n x (Kind.Auth ∷ ks) c = refl
+
+  stored-line : (line : List ℕ) (n x : ℕ) (r : ReplyLine) (u : Bool) (ks : List Kind) (c : List ℕ) → stored line n x (lineGives r u (firstOf ks) c) ≡ line
+  unfolding stored lineGives choose
+  stored-line line n x ReplyLine.GoesOn u ks c = refl
+  stored-line line n x ReplyLine.Preliminary u ks c = refl
+  stored-line line n x ReplyLine.Final true ks c = refl
+  stored-line line n x ReplyLine.Final false ks c = stored-first line n x ks c
+
+  -- what a line judged whole gives
+  line-gives : (h : List ℕ) (r : ReplyLine) (u : Bool) (ks : List Kind) → givesText (f .mapped) h lf (lineGives r u (firstOf ks) (content h)) ≡ wholeLineGives rules ks u h r
+  unfolding lineGives headEffect wholeLineGives finalLineGives givesText choose
+  line-gives h ReplyLine.GoesOn u ks = refl
+  line-gives h ReplyLine.Preliminary u ks = refl
+  line-gives h ReplyLine.Final true [] = refl
+  line-gives h ReplyLine.Final false [] = refl
+  line-gives h ReplyLine.Final true (k ∷ ks) = refl
+  line-gives h ReplyLine.Final false (k ∷ ks) = agree .final k h
+
+  reply-line-fits : (line : List ℕ) (n : ℕ) (u : Bool) (ks : List Kind) → Full line → n < judged
+      → ServerFits f line n lf ks (wholeLine u (firstOf ks) (content (take n line))) (serverLine rules ks u (take n line))
+  unfolding wholeLine serverLine choose
+  reply-line-fits line n u ks full h =
+      let l : List ℕ = take n line in
+      let r : ReplyLine = replyLine (content l) in
+      let kept : stored line n lf (lineGives r u (firstOf ks) (content l)) ≡ line = stored-line line n lf r u ks (content l) in
+      rw (whole l (omega (arith, length-take-le n line (omega arith))))
+      (record {
+        gives = line-gives l r u ks;
+        owed = removes-drop r ks;
+        least = removes-least r ks;
+        unfinished = refl;
+        full = rw kept full;
+        place = rw kept (begins line);
+      })
+
+  reply-octet-fits : (line : List ℕ) (n x : ℕ) (u : Bool) (ks : List Kind) → Full line → n < judged → (b : Bool) → ltb (n + 1) judged ≡ b
+      → ServerFits f line n x ks (replyOctet u n) (lineOctet ks u (joined line n x) x)
+  unfolding replyOctet lineOctet lineOctetGives choose givesText stored
+  reply-octet-fits line n x u ks full h true p =
+      let size : length (joined line n x) ≡ n + 1 = length-joined line n x full h in
+      rw (p, whole (joined line n x) (omega (arith, ltb-true (n + 1) judged p)))
+      (record {
+        gives = refl;
+        owed = refl;
+        least = omega arith;
+        unfinished = refl;
+        full = length-set line n x ∙ full;
+        place = held-more line n x full (ltb-true (n + 1) judged p);
+      })
+  reply-octet-fits line n x u ks full h false p =
+      let size : length (joined line n x) ≡ n + 1 = length-joined line n x full h in
+      let more : judged ≤ length (joined line n x) = omega (arith, ltb-false (n + 1) judged p) in
+      let four : take 4 (joined line n x) ≡ take 4 line =
+      take-append-le 4 (take n line) (x ∷ []) (omega (arith, six, length-take-le n line (omega arith)))
+      ∙ take-take 4 n line (omega (arith, six)) in
+      rw (p, long (joined line n x) more, eq-eqb (length (joined line n x)) judged (omega arith))
+      (record { gives = refl; owed = refl; least = omega arith; unfinished = refl; full = full; place = flowing more (sym four) })
+
+  held-reply-fits : (line : List ℕ) (n x : ℕ) (u : Bool) (ks : List Kind) → Full line → n < judged → (b : Bool) → eqb x lf ≡ b
+      → ServerFits f line n x ks (replyEffect u (firstOf ks) Place.Holding n line b) (choose b (serverLine rules ks u (take n line)) (lineOctet ks u (joined line n x) x))
+  unfolding replyEffect choose
+  held-reply-fits line n x u ks full h true p = rw (eqb-true x lf p) (reply-line-fits line n u ks full h)
+  held-reply-fits line n x u ks full h false p = reply-octet-fits line n x u ks full h (ltb (n + 1) judged) refl
+
+  flowing-reply-fits : (line l : List ℕ) (x : ℕ) (u : Bool) (ks : List Kind) → Full line → judged ≤ length l → FirstFour line l → (b : Bool) → eqb x lf ≡ b
+      → ServerFits f line 0 x ks (replyEffect u (firstOf ks) Place.Flowing 0 line b) (choose b (serverLine rules ks u l) (lineOctet ks u (l ++ (x ∷ [])) x))
+  unfolding replyEffect flowingLine serverLine lineOctet lineOctetGives choose givesText stored
+  flowing-reply-fits line l x u ks full k e true p =
+      rw (reply-flowing line l k e, long l k, eqb-true x lf p)
+      (record {
+        gives = refl;
+        owed = removes-drop (replyLine (content l)) ks;
+        least = removes-least (replyLine (content l)) ks;
+        unfinished = refl;
+        full = full;
+        place = begins line;
+      })
+  flowing-reply-fits line l x u ks full k e false p =
+      let more : judged ≤ length (l ++ (x ∷ [])) = grows l (x ∷ []) k in
+      rw (long (l ++ (x ∷ [])) more, ne-eqb (length (l ++ (x ∷ []))) judged (λ q. omega (arith, length-snoc l x)))
+      (record {
+        gives = refl;
+        owed = refl;
+        least = omega arith;
+        unfinished = refl;
+        full = full;
+        place = flowing more (e ∙ sym (take-append-le 4 l (x ∷ []) (omega (arith, six))));
+      })
+
+  pub server-fits : (u : Bool) (ks : List Kind) {p : Place} {n : ℕ} {line : List ℕ} {q : Reading} → Stands FirstFour p n line q → Full line → (x : ℕ)
+      → ServerFits f line n x ks (replyEffect u (firstOf ks) p n line (eqb x lf)) (serverOctet rules q ks u x)
+  unfolding serverOctet replyEffect givesText stored
+  server-fits u ks (holding {n = n} {line = line} h) full x = held-reply-fits line n x u ks full h (eqb x lf) refl
+  server-fits u ks (flowing {line = line} {l = l} k e) full x = flowing-reply-fits line l x u ks full k e (eqb x lf) refl
+  server-fits u ks passing full x = record { gives = refl; owed = refl; least = omega arith; unfinished = refl; full = full; place = passing }
+  server-fits u ks ended full x = record { gives = refl; owed = refl; least = omega arith; unfinished = refl; full = full; place = ended }

@@ -1,0 +1,295 @@
+-- The session's octets, arrivals and ends do on the record what the readings do with the items of the history.
+use mathlib.Core.Path.{_≡_, refl, sym, ap, _∙_}
+use mathlib.Core.Bool.{Bool, true, false, true≢false}
+use mathlib.Core.List.{List, [], _∷_, _++_, map, append-nil}
+use mathlib.Core.Option.{Option, none, some}
+use Prim.Native.Nat.{ℕ, _-_, _<_}
+use native.Mathlib.Omega.{arith}
+use lib.Dec.{eqb}
+use lib.ListN.{length, take, drop}
+use borrow.Author.Tests.{leb-false}
+use Rattle.rules.specs.Octets.{lf, choose}
+use Rattle.rules.specs.Answers.{Side, client, server, mostOwed, isQueueFull, fits, stop}
+use Rattle.rules.specs.Edition.{LineRules}
+use Rattle.rules.specs.History.{Item, octet, end}
+use Rattle.rules.specs.ToClient.{
+  ended as readEnded,
+  ClientState,
+  ServerState,
+  ClientStep,
+  ServerStep,
+  clientOctet,
+  serverOctet,
+  held,
+  authStep,
+  ownAnswers,
+  afterOctet,
+}
+use Rattle.rules.specs.declared.Answer.{Answer}
+use Rattle.rules.specs.declared.Switches.{Switches}
+use Rattle.effects.specs.declared.Place.{Place}
+use Rattle.effects.specs.declared.Direction.{Direction}
+use Rattle.effects.specs.declared.Owes.{Owes}
+use Rattle.effects.specs.declared.ClientEffect.{ClientEffect}
+use Rattle.effects.specs.declared.ServerEffect.{ServerEffect}
+use Rattle.effects.specs.Kinds.{headOf}
+use Rattle.effects.specs.Effects.{placeEffect, clientEffect, serverEffect}
+use Rattle.session.specs.declared.Fixed.{Fixed}
+use Rattle.session.specs.Steps.{State, Step, settledState, clientState, clientEffectIn, clientStep, serverState, serverEffectIn, serverStep, octetStep}
+use Rattle.session.specs.Calls.{isPassing, Took, tookNothing, unlessStopped, stopOf, takes, endStep}
+use Rattle.history.specs.ByOctets.{clientGives}
+use Rattle.history.proofs.Queue.{Queue, RoomFor, queue-push, queue-first, firstOf}
+use Rattle.history.proofs.Places.{
+  Stands,
+  ended,
+  NoAuth,
+  FirstFour,
+  Full,
+  held-octets,
+  Agrees,
+  ClientFits,
+  client-fits,
+  ServerFits,
+  server-fits,
+}
+use Rattle.history.proofs.Settle.{Settled, settle}
+use Rattle.history.proofs.Items.{
+  Speaks,
+  Does,
+  does-nothing,
+  does-then,
+  does-client,
+  does-server,
+  does-client-end,
+  does-server-end,
+  speaks-on,
+}
+
+-- the record's part that octets change, and the states of the reading
+pub record Alike (s : State) (c : ClientState) (v : ServerState) : Type 0 where
+  pub switches : s .control .switches ≡ c .switches
+  pub client : Stands NoAuth (s .control .client .place) (s .control .client .held) (s .command) (c .place)
+  pub server : Stands FirstFour (s .control .server .place) (s .control .server .held) (s .reply) (v .place)
+  pub command : Full (s .command)
+  pub reply : Full (s .reply)
+  pub queue : Queue (s .kinds) (s .control .owed) (v .owed)
+  pub unfinished : s .control .unfinished ≡ v .unfinished
+
+-- ---- room in the queue
+
+room-any : (owed : ℕ) (o : Owes) → owed < mostOwed → RoomFor owed o
+room-any owed Owes.Nothing h = tt
+room-any owed (Owes.One k) h = h
+
+room-at : (address : List ℕ) (supported : Bool) (sw : Switches) (p : Place) (n : ℕ) (h : List ℕ) (b : Bool) (owed : ℕ)
+    → isQueueFull client (isPassing p) owed ≡ false → RoomFor owed (placeEffect address supported sw p n h b .owes)
+unfolding isQueueFull placeEffect
+room-at address supported sw Place.Holding n h b owed e =
+    room-any owed (placeEffect address supported sw Place.Holding n h b .owes) (leb-false mostOwed owed e)
+room-at address supported sw Place.Flowing n h b owed e =
+    room-any owed (placeEffect address supported sw Place.Flowing n h b .owes) (leb-false mostOwed owed e)
+room-at address supported sw Place.Passing n h b owed e = tt
+room-at address supported sw Place.Ended n h b owed e = tt
+
+-- a client octet that number 1 does not stop has room for what it owes
+room : (f : Fixed) (s : State) (x : ℕ) → isQueueFull client (isPassing (s .control .client .place)) (s .control .owed) ≡ false
+    → RoomFor (s .control .owed) (clientEffectIn f s x .owes)
+unfolding clientEffectIn clientEffect
+room f s x e =
+    let d : Direction = s .control .client in
+    room-at (f .client) (f .supported) (s .control .switches) (d .place) (d .held) (take (d .held) (s .command)) (eqb x lf) (s .control .owed) e
+
+-- ---- what stops a call
+
+abbrev isNone : Option Answer → Bool
+isNone none = true
+isNone (some a) = false
+
+-- where nothing stops the call, the queue has room
+not-full : (full fitting : Bool) → stop full fitting ≡ none → full ≡ false
+unfolding stop choose
+not-full true fitting e = absurd (true≢false (sym (ap isNone e)))
+not-full false fitting e = refl
+
+pub unless-stopped : (P : Took → Type 0) (o : Option Answer) (s : State) (r : Took) → ((a : Answer) → o ≡ some a → P (tookNothing a s)) → (o ≡ none → P r)
+    → P (unlessStopped o s r)
+unfolding unlessStopped
+unless-stopped P none s r p q = q refl
+unless-stopped P (some a) s r p q = p a refl
+
+-- the side that arrives has not ended
+abbrev pub MaySpeak : Side → ClientState → Type 0
+MaySpeak client c = Speaks (c .place)
+MaySpeak server c = Unit {0}
+
+-- ---- items done
+
+module _ (rules : LineRules) where
+  -- items done from one state on, and the state then
+  pub record Done (c : ClientState) (v : ServerState) (is : List Item) (ws wc : List ℕ) (z : State) : Type 0 where
+    pub client : ClientState
+    pub server : ServerState
+    pub does : Does rules c v is ws wc client server
+    pub alike : Alike z client server
+
+  -- octets do not end the client
+  pub record Octets (c : ClientState) (v : ServerState) (is : List Item) (ws wc : List ℕ) (z : State) : Type 0 where
+    pub done : Done c v is ws wc z
+    pub speaks : Speaks (c .place) → Speaks (done .client .place)
+
+  may-speak : (d : Side) (c : ClientState) (v : ServerState) (is : List Item) (ws wc : List ℕ) (z : State) (o : Octets c v is ws wc z)
+      → MaySpeak d c → MaySpeak d (o .done .client)
+  may-speak client c v is ws wc z o h = o .speaks h
+  may-speak server c v is ws wc z o h = tt
+
+  pub done-nothing : {s : State} {c : ClientState} {v : ServerState} → Alike s c v → Done c v [] [] [] s
+  done-nothing {s} {c} {v} a = record { client = c; server = v; does = does-nothing rules c v; alike = a }
+
+  done-then : {c : ClientState} {v : ServerState} {y z : State} (is js : List Item) (ws wc xs xc : List ℕ) (p : Done c v is ws wc y)
+      → Done (p .client) (p .server) js xs xc z → Done c v (is ++ js) (ws ++ xs) (wc ++ xc) z
+  done-then is js ws wc xs xc p q =
+      record { client = q .client; server = q .server; does = does-then rules is js ws wc xs xc (p .does) (q .does); alike = q .alike }
+
+-- ---- one octet
+
+module _ (f : Fixed) (rules : LineRules) (agree : Agrees f rules) where
+  -- an octet's effect, from the switches, the first kind and the unfinished reply as the reading has them
+  client-effect : (s : State) (c : ClientState) (v : ServerState) (x : ℕ) → Alike s c v
+      → ClientFits f (s .command) (s .control .client .held) x (clientEffectIn f s x)
+      (clientGives rules (c .switches) (c .place) x) (clientOctet rules (c .switches) (c .place) x)
+  unfolding clientEffectIn clientEffect
+  client-effect s c v x a = by-switches (s .control .switches) (c .switches) (a .switches)
+    where
+      by-switches : (sw sw′ : Switches) → sw ≡ sw′
+          → ClientFits f (s .command) (s .control .client .held) x (clientEffect (f .client) (f .supported) sw (s .control .client) (s .command) x)
+          (clientGives rules sw′ (c .place) x) (clientOctet rules sw′ (c .place) x)
+      by-switches sw sw′ e = rw e (client-fits f rules agree sw′ (a .client) (a .command) x)
+
+  server-effect : (s : State) (c : ClientState) (v : ServerState) (x : ℕ) → Alike s c v
+      → ServerFits f (s .reply) (s .control .server .held) x (v .owed) (serverEffectIn s x)
+      (serverOctet rules (v .place) (v .owed) (v .unfinished) x)
+  unfolding serverEffectIn serverEffect
+  server-effect s c v x a = by-queue (s .control .unfinished) (v .unfinished) (headOf (s .kinds) (s .control .owed)) (a .unfinished) (queue-first (a .queue))
+    where
+      by-queue : (u u′ : Bool) (o : Owes) → u ≡ u′ → o ≡ firstOf (v .owed)
+          → ServerFits f (s .reply) (s .control .server .held) x (v .owed) (serverEffect u o (s .control .server) (s .reply) x)
+          (serverOctet rules (v .place) (v .owed) u′ x)
+      by-queue u u′ o e g = rw (e, g) (server-fits f rules agree u′ (v .owed) (a .server) (a .reply) x)
+
+  client-does : (s : State) (c : ClientState) (v : ServerState) (x : ℕ) → Alike s c v → Speaks (c .place)
+      → isQueueFull client (isPassing (s .control .client .place)) (s .control .owed) ≡ false
+      → Octets rules c v (octet client x ∷ []) (clientStep f s x .toServer) (clientStep f s x .toClient) (clientStep f s x .state)
+  unfolding clientStep clientState settledState afterOctet
+  client-does s c v x a speaks notFull =
+      let e : ClientEffect = clientEffectIn f s x in
+      let j : ClientStep = clientOctet rules (c .switches) (c .place) x in
+      let fit : ClientFits f (s .command) (s .control .client .held) x e (clientGives rules (c .switches) (c .place) x) j = client-effect s c v x a in
+      let t : State = clientState s x e in
+      let queue : Queue (t .kinds) (t .control .owed) (v .owed ++ j .owes) = rw (fit .owes) at (queue-push (a .queue) (e .owes) (room f s x notFull)) in
+      let done : Settled t 0 [] (authStep (ownAnswers (v .place) (v .owed ++ j .owes) (v .unfinished) [])) =
+      settle t 0 [] (a .server) (a .reply) queue (a .unfinished) (v .owed ++ j .owes) (omega arith) refl in
+      record {
+        done = record {
+          client = j .state;
+          server = afterOctet (record { state = v; gives = [] }) (j .owes) .state;
+          does = rw (fit .gives, done .gives) (does-client rules c v x speaks);
+          alike = record {
+            switches = fit .switches;
+            client = fit .place;
+            server = done .server;
+            command = fit .full;
+            reply = a .reply;
+            queue = done .queue;
+            unfinished = done .unfinished;
+          };
+        };
+        speaks = speaks-on rules (c .switches) (c .place) x;
+      }
+
+  server-does : (s : State) (c : ClientState) (v : ServerState) (x : ℕ) → Alike s c v
+      → Octets rules c v (octet server x ∷ []) (serverStep f s x .toServer) (serverStep f s x .toClient) (serverStep f s x .state)
+  unfolding serverStep serverState settledState afterOctet
+  server-does s c v x a =
+      let e : ServerEffect = serverEffectIn s x in
+      let r : ServerStep = serverOctet rules (v .place) (v .owed) (v .unfinished) x in
+      let fit : ServerFits f (s .reply) (s .control .server .held) x (v .owed) e r = server-effect s c v x a in
+      let t : State = serverState s x e in
+      let owed : drop (e .removes) (v .owed) ≡ r .state .owed ++ [] = fit .owed ∙ sym (append-nil (r .state .owed)) in
+      let done : Settled t (e .removes) (r .gives) (authStep (ownAnswers (r .state .place) (r .state .owed ++ []) (r .state .unfinished) (r .gives))) =
+      settle t (e .removes) (r .gives) (fit .place) (fit .full) (a .queue) (fit .unfinished) (r .state .owed ++ []) (fit .least) owed in
+      record {
+        done = record {
+          client = c;
+          server = afterOctet r [] .state;
+          does = rw (fit .gives, done .gives) (does-server rules c v x);
+          alike = record {
+            switches = a .switches;
+            client = a .client;
+            server = done .server;
+            command = a .command;
+            reply = fit .full;
+            queue = done .queue;
+            unfinished = done .unfinished;
+          };
+        };
+        speaks = λ h. h;
+      }
+
+  octet-does : (d : Side) (s : State) (c : ClientState) (v : ServerState) (x : ℕ) → Alike s c v → MaySpeak d c
+      → isQueueFull d (isPassing (s .control .client .place)) (s .control .owed) ≡ false
+      → Octets rules c v (octet d x ∷ []) (octetStep f d s x .toServer) (octetStep f d s x .toClient) (octetStep f d s x .state)
+  unfolding octetStep
+  octet-does client s c v x a speaks notFull = client-does s c v x a speaks notFull
+  octet-does server s c v x a speaks notFull = server-does s c v x a
+
+  -- ---- the octets of an arrival
+
+  pub takes-does : (d : Side) (s : State) (c : ClientState) (v : ServerState) (xs : List ℕ) (rs rc : ℕ) → Alike s c v → MaySpeak d c
+      → let t = takes f d s xs rs rc in Done rules c v (map (octet d) (take (t .taken) xs)) (t .toServer) (t .toClient) (t .state)
+  unfolding takes stopOf
+  takes-does d s c v [] rs rc a m = done-nothing rules a
+  takes-does d s c v (x ∷ xs) rs rc a m =
+      let t : Step = octetStep f d s x in
+      let P : Took → Type 0 = λ r. Done rules c v (map (octet d) (take (r .taken) (x ∷ xs))) (r .toServer) (r .toClient) (r .state) in
+      unless-stopped P (stopOf d s t rs rc) s _ (λ n e. done-nothing rules a)
+      (λ e. let o : Octets rules c v (octet d x ∷ []) (t .toServer) (t .toClient) (t .state) =
+      octet-does d s c v x a m (not-full _ (fits (t .toServer) (t .toClient) rs rc) e) in
+      done-then rules (octet d x ∷ []) _ (t .toServer) (t .toClient) _ _ (o .done)
+      (takes-does d (t .state) (o .done .client) (o .done .server) xs (rs - length (t .toServer)) (rc - length (t .toClient)) (o .done .alike)
+      (may-speak rules d c v _ _ _ _ o m)))
+
+  -- ---- an end
+
+  pub end-does : (d : Side) (s : State) (c : ClientState) (v : ServerState) → Alike s c v
+      → Done rules c v (end d ∷ []) (endStep d s .toServer) (endStep d s .toClient) (endStep d s .state)
+  unfolding endStep
+  end-does client s c v a =
+      record {
+        client = record { switches = c .switches; place = readEnded };
+        server = v;
+        does = rw (held-octets (a .client) (a .command)) (does-client-end rules c v);
+        alike = record {
+          switches = a .switches;
+          client = ended;
+          server = a .server;
+          command = a .command;
+          reply = a .reply;
+          queue = a .queue;
+          unfinished = a .unfinished;
+        };
+      }
+  end-does server s c v a =
+      record {
+        client = c;
+        server = record { place = readEnded; owed = v .owed; unfinished = v .unfinished };
+        does = rw (held-octets (a .server) (a .reply)) (does-server-end rules c v);
+        alike = record {
+          switches = a .switches;
+          client = a .client;
+          server = ended;
+          command = a .command;
+          reply = a .reply;
+          queue = a .queue;
+          unfinished = a .unfinished;
+        };
+      }

@@ -1,0 +1,66 @@
+-- The twelve exchanges through setup, arrivals and ends, octet by octet and in whole pieces.
+use mathlib.Core.List.{List, [], _∷_, _++_}
+use Prim.Native.Nat.{ℕ}
+use Rattle.rules.specs.Octets.{choose}
+use Rattle.rules.specs.Answers.{Side}
+use Rattle.rules.specs.History.{Item, octet, end, sameSide}
+use Rattle.rules.specs.Exchanges.{Exchange, exchange, allOn, greeting, serverSays, printed}
+use Rattle.session.specs.declared.Session.{Session}
+use Rattle.session.specs.Calls.{Outcome, prepared, arrived, ended}
+use Rattle.history.specs.Gateway.{directionOf}
+
+-- octets that arrive together, or an end
+pub data Said : Type 0 where
+  says : Side → List ℕ → Said
+  ends : Side → Said
+
+-- a history with an arrival for each octet
+unfoldable pub singly : List Item → List Said
+singly [] = []
+singly (octet d x ∷ is) = says d (x ∷ []) ∷ singly is
+singly (end d ∷ is) = ends d ∷ singly is
+
+-- a history with an arrival for all octets that a side says in a row
+unfoldable pub ontoPiece : Side → ℕ → List Said → List Said
+ontoPiece d x [] = says d (x ∷ []) ∷ []
+ontoPiece d x (says e xs ∷ ps) = choose (sameSide d e) (says d (x ∷ xs) ∷ ps) (says d (x ∷ []) ∷ says e xs ∷ ps)
+ontoPiece d x (ends e ∷ ps) = says d (x ∷ []) ∷ ends e ∷ ps
+
+unfoldable pub wholly : List Item → List Said
+wholly [] = []
+wholly (octet d x ∷ is) = ontoPiece d x (wholly is)
+wholly (end d ∷ is) = ends d ∷ wholly is
+
+-- the room in each buffer
+abbrev pub room : ℕ
+room = 2000
+
+unfoldable pub saidOutcome : Session → Said → Outcome
+saidOutcome r (says d xs) = arrived r (directionOf d) xs room room
+saidOutcome r (ends d) = ended r (directionOf d) room room
+
+-- what has gone to the server and to the client
+unfoldable pub gone : Session → List Said → List ℕ × List ℕ
+gone r [] = ([], [])
+gone r (p ∷ ps) =
+    let o = saidOutcome r p in
+    let rest = gone (o .called .session) ps in
+    (o .toServer ++ rest .0, o .toClient ++ rest .1)
+
+-- an exchange as the calls have it, after the greeting
+unfoldable pub calledAs : (List Item → List Said) → Exchange → Exchange
+calledAs cut e =
+    let g = gone (prepared (allOn .client) (allOn .mapped) (allOn .flags) .session) (cut (serverSays greeting ++ e .said)) in
+    exchange (e .said) (g .0) (g .1)
+
+-- both ways to cut it
+unfoldable pub calledBoth : Exchange → Exchange × Exchange
+calledBoth e = (calledAs singly e, calledAs wholly e)
+
+unfoldable pub printedBoth : Exchange → Exchange × Exchange
+printedBoth e = (printed e, printed e)
+
+-- this page's definitions, for a proof that computes with them
+unfoldable pub calls-exchanges-opened : Unit {0}
+unfolding singly ontoPiece wholly saidOutcome gone calledAs calledBoth printedBoth
+calls-exchanges-opened = tt
