@@ -1,0 +1,343 @@
+-- One octet writes at most 512 octets to the server and 1,280 to the client, and so a call goes on where there is room.
+use mathlib.Core.Path.{_≡_}
+use mathlib.Core.Bool.{Bool, true, false}
+use mathlib.Core.List.{List, [], _∷_}
+use mathlib.Core.Option.{Option, none}
+use Prim.Native.Nat.{ℕ, zero, suc, _+_, _*_, _≤_, _<_}
+use native.Mathlib.Omega.{arith}
+use lib.Dec.{eqb}
+use lib.ListN.{length, take, length-append, length-drop, length-map}
+use borrow.Author.Tests.{leb-false, ltb-true, le-leb}
+use Rattle.rules.specs.Octets.{lf, choose, every}
+use Rattle.rules.specs.Answers.{
+  Side,
+  client,
+  server,
+  sideOf,
+  mostOwed,
+  isQueueFull,
+  fits,
+  stop,
+  mostToServer,
+  mostToClient,
+}
+use Rattle.rules.specs.Lines.{judged, content}
+use Rattle.rules.specs.Commands.{command}
+use Rattle.rules.specs.Replies.{replyLine, passiveReply, headAnswers}
+use Rattle.rules.specs.declared.Answer.{Answer}
+use Rattle.rules.specs.declared.Switches.{Switches}
+use Rattle.rules.specs.declared.Kind.{Kind}
+use Rattle.rules.specs.declared.Command.{Command}
+use Rattle.rules.specs.declared.ReplyLine.{ReplyLine}
+use Rattle.rules.specs.declared.PassiveReply.{PassiveReply}
+use Rattle.effects.specs.declared.Place.{Place}
+use Rattle.effects.specs.declared.Direction.{Direction}
+use Rattle.effects.specs.declared.Gives.{Gives}
+use Rattle.effects.specs.declared.Owes.{Owes}
+use Rattle.effects.specs.declared.ClientEffect.{ClientEffect}
+use Rattle.effects.specs.declared.ServerEffect.{ServerEffect}
+use Rattle.effects.specs.Kinds.{queueOf, headOf}
+use Rattle.effects.specs.Effects.{
+  givesText,
+  commandEffect,
+  judgedEffect,
+  joinEffect,
+  placeEffect,
+  clientEffect,
+  passiveEffect,
+  kindEffect,
+  headEffect,
+  lineGives,
+  wholeLine,
+  flowingLine,
+  replyOctet,
+  replyEffect,
+  serverEffect,
+}
+use Rattle.session.specs.declared.Fixed.{Fixed}
+use Rattle.session.specs.declared.Session.{Session}
+use Rattle.session.specs.Steps.{
+  State,
+  Step,
+  owedThen,
+  owedFrom,
+  blocked,
+  answersText,
+  isAuthNext,
+  settledText,
+  clientState,
+  clientEffectIn,
+  clientStep,
+  serverState,
+  serverEffectIn,
+  serverStep,
+  octetStep,
+}
+use Rattle.session.specs.Calls.{
+  isPassing,
+  sound,
+  refusalOf,
+  stateOf,
+  fixedOf,
+  unlessStopped,
+  stopOf,
+  takes,
+  unlessRefused,
+  outcome,
+  arrived,
+}
+use Rattle.session.specs.Bounds.{WritesAtMost, OctetBound, Progress}
+use Rattle.answers.proofs.Lengths.{
+  isOctet,
+  judged-most,
+  port-most,
+  pasv-most,
+  extended-passive-most,
+  answers-most,
+}
+use Rattle.answers.specs.Table.{Sound}
+use Rattle.answers.proofs.Refusals.{Refusal, unknown, bad, over, accepted, sound-words, refusal-of}
+use Rattle.answers.proofs.Ports.{
+  either,
+  chosen,
+  SmallCommand,
+  passes,
+  passive,
+  port,
+  answered,
+  auth,
+  command-small,
+  SmallReply,
+  unreadable,
+  reply-small,
+}
+
+-- ---- lists
+
+take-most : {A : Type 0} (n : ℕ) (l : List A) → length (take n l) ≤ n
+take-most zero l = omega arith
+take-most (suc n) [] = omega arith
+take-most (suc n) (x ∷ l) = omega (arith, take-most n l)
+
+record Short (n : ℕ) (l : List ℕ) : Type 0 where
+  most : length l ≤ n
+
+-- ---- what an octet gives on its own side
+
+module _ (mapped : List ℕ) (size : length mapped ≡ 4) (octets : every isOctet mapped ≡ true) (h : List ℕ) (x : ℕ) where
+  -- at most one line is given
+  record Line (g : Gives) : Type 0 where
+    most : length (givesText mapped h x g) ≤ judged
+
+  octet-line : Line Gives.Octet
+  unfolding givesText
+  octet-line = record { most = omega (arith, judged-most) }
+
+  nothing-line : Line Gives.Nothing
+  unfolding givesText
+  nothing-line = record { most = omega arith }
+
+  kept-line : Line Gives.Held
+  unfolding givesText
+  kept-line = record { most = omega arith }
+
+  held-line : length h < judged → Line Gives.HeldAndOctet
+  unfolding givesText
+  held-line less = record { most = simp length-append (omega arith) }
+
+  command-line : length h < judged → (k : Command) → SmallCommand k → Line (commandEffect k)
+  unfolding commandEffect givesText
+  command-line less k passes = held-line less
+  command-line less k passive = record { most = pasv-most }
+  command-line less k (port p small) = record { most = port-most mapped p size octets small }
+  command-line less k (answered a) = nothing-line
+  command-line less k auth = held-line less
+
+  -- ---- a client octet
+
+  record ClientLine (e : ClientEffect) : Type 0 where
+    line : Line (e .gives)
+
+  join-line : length h < judged → (sw : Switches) (held : ℕ) → ClientLine (joinEffect sw held h)
+  unfolding joinEffect
+  join-line less sw held =
+      either ClientLine _ _ _ (record { line = kept-line }) (either ClientLine _ _ _ (record { line = held-line less }) (record { line = held-line less }))
+
+  place-line : length h < judged → (address : List ℕ) (supported : Bool) (sw : Switches) (p : Place) (held : ℕ) (b : Bool)
+      → ClientLine (placeEffect address supported sw p held h b)
+  unfolding placeEffect judgedEffect
+  place-line less address supported sw Place.Holding held true =
+      record { line = command-line less (command address supported sw h) (command-small address supported sw h) }
+  place-line less address supported sw Place.Holding held false = join-line less sw held
+  place-line less address supported sw Place.Flowing held true = record { line = octet-line }
+  place-line less address supported sw Place.Flowing held false = record { line = octet-line }
+  place-line less address supported sw Place.Passing held b = record { line = octet-line }
+  place-line less address supported sw Place.Ended held b = record { line = nothing-line }
+
+  -- ---- a server line judged whole
+
+  passive-line : length h < judged → (r : PassiveReply) → SmallReply r → Line (passiveEffect r)
+  unfolding passiveEffect givesText
+  passive-line less r (port p small) = record { most = extended-passive-most p small }
+  passive-line less r unreadable = held-line less
+
+  kind-line : length h < judged → (k : Kind) (c : List ℕ) → Line (kindEffect k c)
+  unfolding kindEffect
+  kind-line less Kind.Plain c = held-line less
+  kind-line less Kind.TranslatedEpsv c = passive-line less (passiveReply c) (reply-small c)
+  kind-line less (Kind.Own a) c = held-line less
+  kind-line less Kind.Auth c = held-line less
+
+  head-line : length h < judged → (o : Owes) (c : List ℕ) → Line (headEffect o c)
+  unfolding headEffect
+  head-line less Owes.Nothing c = held-line less
+  head-line less (Owes.One k) c = kind-line less k c
+
+  whole-line : length h < judged → (r : ReplyLine) (u : Bool) (o : Owes) (c : List ℕ) → Line (lineGives r u o c)
+  unfolding lineGives
+  whole-line less ReplyLine.GoesOn u o c = held-line less
+  whole-line less ReplyLine.Preliminary u o c = held-line less
+  whole-line less ReplyLine.Final u o c = either Line _ _ _ (held-line less) (head-line less o c)
+
+  -- what a server octet gives and what is held after it are together at most one line
+  record ServerLine (e : ServerEffect) : Type 0 where
+    together : length (givesText mapped h x (e .gives)) + e .direction .held ≤ judged
+
+  next-line : length h < judged → (u : Bool) (held : ℕ) → ServerLine (replyOctet u held)
+  unfolding replyOctet givesText
+  next-line less u held =
+      chosen ServerLine _ _ _ (λ e. record { together = omega (arith, ltb-true (held + 1) judged e) })
+      (λ e. record { together = omega (arith, held-line less .most) })
+
+  reply-line : length h < judged → (u : Bool) (o : Owes) (p : Place) (held : ℕ) (line : List ℕ) (b : Bool) → ServerLine (replyEffect u o p held line b)
+  unfolding replyEffect wholeLine flowingLine
+  reply-line less u o Place.Holding held line true =
+      let c : List ℕ = content (take held line) in record { together = omega (arith, whole-line less (replyLine c) u o c .most) }
+  reply-line less u o Place.Holding held line false = next-line less u held
+  reply-line less u o Place.Flowing held line true = record { together = omega (arith, octet-line .most) }
+  reply-line less u o Place.Flowing held line false = record { together = omega (arith, octet-line .most) }
+  reply-line less u o Place.Passing held line b = record { together = omega (arith, octet-line .most) }
+  reply-line less u o Place.Ended held line b = record { together = omega (arith, nothing-line .most) }
+
+-- ---- own answers and the AUTH step
+
+queue-most : (kinds : List ℕ) (owed : ℕ) → length (queueOf kinds owed) ≤ owed
+unfolding queueOf
+queue-most kinds owed = rw length-map (take-most owed kinds)
+
+-- 48 for each kind owed, and the octets held
+settled-most : (s : State) (n : ℕ) → length (settledText s n) ≤ s .control .owed * 48 + s .control .server .held
+unfolding settledText answersText
+settled-most s n =
+    let queue : List Kind = queueOf (s .kinds) (s .control .owed) in
+    let held : List ℕ = take (s .control .server .held) (s .reply) in
+    let answers : Short (s .control .owed * 48) (choose (blocked (s .control)) [] (headAnswers (owedFrom s n))) =
+    either (Short _) _ _ _ (record { most = omega arith })
+    (record { most = omega (arith, answers-most (owedFrom s n), length-drop n queue, queue-most (s .kinds) (s .control .owed)) }) in
+    let rest : Short (s .control .server .held) (choose (isAuthNext s n) held []) =
+    either (Short _) _ _ _ (record { most = take-most (s .control .server .held) (s .reply) }) (record { most = omega arith }) in
+    simp length-append (omega (arith, answers .most, rest .most))
+
+-- ---- room in the queue
+
+after-any : (owed : ℕ) (o : Owes) → owed < mostOwed → owedThen owed o ≤ mostOwed
+unfolding owedThen
+after-any owed Owes.Nothing h = omega arith
+after-any owed (Owes.One k) h = omega arith
+
+pub owed-after : (address : List ℕ) (supported : Bool) (sw : Switches) (p : Place) (n : ℕ) (h : List ℕ) (b : Bool) (owed : ℕ)
+    → owed ≤ mostOwed → isQueueFull client (isPassing p) owed ≡ false
+    → owedThen owed (placeEffect address supported sw p n h b .owes) ≤ mostOwed
+unfolding isQueueFull placeEffect owedThen
+owed-after address supported sw Place.Holding n h b owed most e =
+    after-any owed (placeEffect address supported sw Place.Holding n h b .owes) (leb-false mostOwed owed e)
+owed-after address supported sw Place.Flowing n h b owed most e =
+    after-any owed (placeEffect address supported sw Place.Flowing n h b .owes) (leb-false mostOwed owed e)
+owed-after address supported sw Place.Passing n h b owed most e = most
+owed-after address supported sw Place.Ended n h b owed most e = most
+
+-- ---- what number 4 lets through
+
+-- at most 16 are owed, and each direction holds less than a line
+pub record Small (s : State) : Type 0 where
+  pub owed : s .control .owed ≤ mostOwed
+  pub client : s .control .client .held < judged
+  pub server : s .control .server .held < judged
+
+pub small : (s : Session) → Sound s → Small (stateOf s)
+small s w =
+    record {
+      owed = w .owed;
+      client = omega (arith, w .client .most, judged-most);
+      server = omega (arith, w .server .most, judged-most);
+    }
+
+-- ---- one octet
+
+module _ (f : Fixed) (size : length (f .mapped) ≡ 4) (octets : every isOctet (f .mapped) ≡ true) (s : State) (x : ℕ) (sm : Small s) where
+  client-most : isQueueFull client (isPassing (s .control .client .place)) (s .control .owed) ≡ false → WritesAtMost (clientStep f s x)
+  unfolding clientStep clientState clientEffectIn clientEffect mostToServer mostToClient
+  client-most notFull =
+      let d : Direction = s .control .client in
+      let h : List ℕ = take (d .held) (s .command) in
+      let e : ClientEffect = clientEffectIn f s x in
+      let less : length h < judged = omega (arith, take-most (d .held) (s .command), sm .client) in
+      let given : ClientLine (f .mapped) size octets h x e =
+      place-line (f .mapped) size octets h x less (f .client) (f .supported) (s .control .switches) (d .place) (d .held) (eqb x lf) in
+      let owed : owedThen (s .control .owed) (e .owes) ≤ mostOwed =
+      owed-after (f .client) (f .supported) (s .control .switches) (d .place) (d .held) h (eqb x lf) (s .control .owed) (sm .owed) notFull in
+      record {
+        toServer = given .line .most;
+        toClient = omega (arith, settled-most (clientState s x e) 0, owed, sm .server);
+      }
+
+  server-most : WritesAtMost (serverStep f s x)
+  unfolding serverStep serverState serverEffectIn serverEffect mostToServer mostToClient
+  server-most =
+      let d : Direction = s .control .server in
+      let h : List ℕ = take (d .held) (s .reply) in
+      let e : ServerEffect = serverEffectIn s x in
+      let less : length h < judged = omega (arith, take-most (d .held) (s .reply), sm .server) in
+      let given : ServerLine (f .mapped) size octets h x e =
+      reply-line (f .mapped) size octets h x less (s .control .unfinished) (headOf (s .kinds) (s .control .owed)) (d .place) (d .held) (s .reply) (eqb x lf) in
+      record {
+        toServer = omega arith;
+        toClient = simp length-append (omega (arith, given .together, settled-most (serverState s x e) (e .removes), sm .owed));
+      }
+
+  pub octet-most : (d : Side) → isQueueFull d (isPassing (s .control .client .place)) (s .control .owed) ≡ false → WritesAtMost (octetStep f d s x)
+  unfolding octetStep
+  octet-most client notFull = client-most notFull
+  octet-most server notFull = server-most
+
+pub octet-bound : OctetBound
+octet-bound s d x shape e notFull = octet-most (fixedOf s) (shape .mapped) (shape .octets) (stateOf s) x (small s (sound-words s .0 e)) d notFull
+
+-- ---- a call goes on
+
+accepted-sound : (s : Session) (d : ℕ) (r : Option Answer) → Refusal s d r → r ≡ none → Sound s
+accepted-sound s d r (unknown u) e = absurd (let z : _≡_ {A = ℕ} 0 1 = cc in omega arith)
+accepted-sound s d r (bad k n) e = absurd (let z : _≡_ {A = ℕ} 0 1 = cc in omega arith)
+accepted-sound s d r (over k n p) e = n
+accepted-sound s d r (accepted k n p) e = n
+
+-- each buffer has room for what one octet writes at most
+goes-on : (d : Side) (s : State) (t : Step) (rs rc : ℕ) → isQueueFull d (isPassing (s .control .client .place)) (s .control .owed) ≡ false
+    → WritesAtMost t → mostToClient ≤ rs → mostToClient ≤ rc → stopOf d s t rs rc ≡ none
+unfolding stopOf stop fits choose mostToServer mostToClient
+goes-on d s t rs rc notFull w hs hc =
+    rw (notFull, le-leb (length (t .toServer)) rs (omega (arith, w .toServer)), le-leb (length (t .toClient)) rc (omega (arith, w .toClient)))
+
+takes-one : (f : Fixed) (d : Side) (s : State) (x : ℕ) (xs : List ℕ) (rs rc : ℕ) → stopOf d s (octetStep f d s x) rs rc ≡ none
+    → 1 ≤ takes f d s (x ∷ xs) rs rc .taken
+unfolding takes unlessStopped
+takes-one f d s x xs rs rc e = rw e (omega arith)
+
+pub progress : Progress
+unfolding arrived unlessRefused outcome
+progress s d x xs rs rc shape ok notFull hs hc =
+    let t : Step = octetStep (fixedOf s) (sideOf d) (stateOf s) x in
+    let lets : sound s ≡ true = sound-words s .1 (accepted-sound s d (refusalOf s d) (refusal-of s d) ok) in
+    rw ok
+    (takes-one (fixedOf s) (sideOf d) (stateOf s) x xs rs rc
+    (goes-on (sideOf d) (stateOf s) t rs rc notFull (octet-bound s (sideOf d) x shape lets notFull) hs hc))

@@ -1,0 +1,331 @@
+-- No call makes a record that number 4 refuses, and the bounds hold of every octet that an arrival comes to.
+use mathlib.Core.Path.{_≡_, refl, sym, _∙_, subst}
+use mathlib.Core.Bool.{Bool, true, false}
+use mathlib.Core.List.{List, [], _∷_}
+use mathlib.Core.Logic.{inl, inr}
+use mathlib.Core.Option.{Option}
+use Prim.Native.Nat.{ℕ, zero, suc, _+_, _-_, _≤_, _<_}
+use native.Mathlib.Omega.{arith}
+use lib.Dec.{eqb, leb, lit≤}
+use lib.ListN.{length, take, getD, length-set, length-replicate, getD-replicate}
+use borrow.Author.Tests.{ltb-true}
+use Rattle.rules.specs.Octets.{lf, every}
+use Rattle.rules.specs.Answers.{Side, client, server, sideOf, mostOwed, isQueueFull}
+use Rattle.rules.specs.Lines.{judged}
+use Rattle.rules.specs.declared.Switches.{Switches}
+use Rattle.rules.specs.declared.Answer.{Answer}
+use Rattle.effects.specs.declared.Place.{Place}
+use Rattle.effects.specs.declared.Direction.{Direction}
+use Rattle.effects.specs.declared.Gives.{Gives}
+use Rattle.effects.specs.declared.Owes.{Owes}
+use Rattle.effects.specs.declared.ClientEffect.{ClientEffect}
+use Rattle.effects.specs.declared.ServerEffect.{ServerEffect}
+use Rattle.effects.specs.Kinds.{headOf}
+use Rattle.effects.specs.Effects.{
+  judgedEffect,
+  joinEffect,
+  placeEffect,
+  clientEffect,
+  wholeLine,
+  flowingLine,
+  replyOctet,
+  replyEffect,
+  serverEffect,
+}
+use Rattle.session.specs.declared.Fixed.{Fixed}
+use Rattle.session.specs.declared.Session.{Session}
+use Rattle.session.specs.Steps.{
+  State,
+  stored,
+  leaving,
+  passesFromNow,
+  isAuthNext,
+  settledState,
+  clientState,
+  clientEffectIn,
+  clientStep,
+  serverState,
+  serverEffectIn,
+  serverStep,
+  octetStep,
+}
+use Rattle.session.specs.Calls.{
+  isPassing,
+  refusalOf,
+  stateOf,
+  fixedOf,
+  sessionAfter,
+  Outcome,
+  refused,
+  unlessRefused,
+  outcome,
+  arrived,
+  endStep,
+  endOutcome,
+  ended,
+  freshSession,
+}
+use Rattle.session.specs.Bounds.{Shaped, WritesAtMost}
+use Rattle.answers.specs.Table.{
+  Call,
+  Result,
+  arrival,
+  ending,
+  SoundDirection,
+  Sound,
+  Accepted,
+  octetSteps,
+  before,
+  next,
+  Full,
+  Takes,
+  One,
+}
+use Rattle.answers.proofs.Lengths.{judged-most}
+use Rattle.answers.proofs.Ports.{either, chosen}
+use Rattle.answers.proofs.Queue.{Queue, queue-push, queue-leave}
+use Rattle.answers.proofs.Bounds.{Small, owed-after, octet-most}
+use Rattle.answers.proofs.Refusals.{
+  listed-each,
+  each-listed,
+  Refusal,
+  unknown,
+  bad,
+  over,
+  accepted,
+  refusal-of,
+}
+use Rattle.answers.proofs.Rows.{took, it-takes, ItsLast, taken-first, result, endResult}
+use Rattle.answers.proofs.Taking.{queue-open}
+
+-- ---- what a direction holds
+
+record ClientSound (e : ClientEffect) : Type 0 where
+  direction : SoundDirection (e .direction)
+
+record ServerSound (e : ServerEffect) : Type 0 where
+  direction : SoundDirection (e .direction)
+
+-- a line that is judged, let go or passed leaves nothing held
+none-held : (p : Place) → SoundDirection (record { place = p; held = 0 })
+none-held p = record { most = omega arith; none = λ q. refl }
+
+one-more : (n : ℕ) → n + 1 < judged → SoundDirection (record { place = Place.Holding; held = n + 1 })
+one-more n h = record { most = omega arith; none = λ q. absurd (q refl) }
+
+place-sound : (address : List ℕ) (supported : Bool) (sw : Switches) (p : Place) (n : ℕ) (h : List ℕ) (b : Bool)
+    → ClientSound (placeEffect address supported sw p n h b)
+unfolding placeEffect judgedEffect joinEffect
+place-sound address supported sw Place.Holding n h true = record { direction = none-held _ }
+place-sound address supported sw Place.Holding n h false =
+    chosen ClientSound _ _ _ (λ e. record { direction = one-more n (ltb-true (n + 1) judged e) })
+    (λ e. either ClientSound _ _ _ (record { direction = none-held _ }) (record { direction = none-held _ }))
+place-sound address supported sw Place.Flowing n h true = record { direction = none-held _ }
+place-sound address supported sw Place.Flowing n h false = record { direction = none-held _ }
+place-sound address supported sw Place.Passing n h b = record { direction = none-held _ }
+place-sound address supported sw Place.Ended n h b = record { direction = none-held _ }
+
+reply-sound : (u : Bool) (o : Owes) (p : Place) (n : ℕ) (line : List ℕ) (b : Bool) → ServerSound (replyEffect u o p n line b)
+unfolding replyEffect wholeLine flowingLine replyOctet
+reply-sound u o Place.Holding n line true = record { direction = none-held _ }
+reply-sound u o Place.Holding n line false =
+    chosen ServerSound _ _ _ (λ e. record { direction = one-more n (ltb-true (n + 1) judged e) }) (λ e. record { direction = none-held _ })
+reply-sound u o Place.Flowing n line true = record { direction = none-held _ }
+reply-sound u o Place.Flowing n line false = record { direction = none-held _ }
+reply-sound u o Place.Passing n line b = record { direction = none-held _ }
+reply-sound u o Place.Ended n line b = record { direction = none-held _ }
+
+passes-sound : (d : Direction) (p : Place) → SoundDirection d → SoundDirection (passesFromNow d p)
+passes-sound d Place.Holding h = none-held _
+passes-sound d Place.Flowing h = none-held _
+passes-sound d Place.Passing h = none-held _
+passes-sound d Place.Ended h = h
+
+length-stored : (line : List ℕ) (n x : ℕ) (g : Gives) → length (stored line n x g) ≡ length line
+unfolding stored
+length-stored line n x Gives.Held = length-set line n x
+length-stored line n x Gives.Nothing = refl
+length-stored line n x Gives.Octet = refl
+length-stored line n x Gives.HeldAndOctet = refl
+length-stored line n x Gives.Pasv = refl
+length-stored line n x (Gives.Port p) = refl
+length-stored line n x (Gives.ExtendedPassive p) = refl
+
+-- ---- an octet that 1 does not stop keeps the state sound
+
+pub record Kept (s : State) : Type 0 where
+  pub queue : Queue (s .kinds) (s .control .owed)
+  pub client : SoundDirection (s .control .client)
+  pub server : SoundDirection (s .control .server)
+  pub command : length (s .command) ≡ judged - 1
+  pub reply : length (s .reply) ≡ judged - 1
+
+settled-kept : (s : State) (n : ℕ) → Kept s → Kept (settledState s n)
+unfolding settledState
+settled-kept s n h =
+    let d : Direction = s .control .server in
+    record {
+      queue = queue-leave (h .queue) (leaving s n);
+      client = h .client;
+      server = either SoundDirection (isAuthNext s n) (passesFromNow d (d .place)) d (passes-sound d (d .place) (h .server)) (h .server);
+      command = h .command;
+      reply = h .reply;
+    }
+
+octet-kept : (f : Fixed) (d : Side) (s : State) (x : ℕ) → Kept s → isQueueFull d (isPassing (s .control .client .place)) (s .control .owed) ≡ false
+    → Kept (octetStep f d s x .state)
+unfolding octetStep clientStep clientState clientEffectIn clientEffect serverStep serverState serverEffectIn serverEffect
+octet-kept f client s x h notFull =
+    let d : Direction = s .control .client in
+    let sw : Switches = s .control .switches in
+    let l : List ℕ = take (d .held) (s .command) in
+    let e : ClientEffect = clientEffectIn f s x in
+    settled-kept (clientState s x e) 0
+    (record {
+      queue = queue-push (h .queue) (e .owes) (owed-after (f .client) (f .supported) sw (d .place) (d .held) l (eqb x lf) (s .control .owed) (h .queue .most) notFull);
+      client = place-sound (f .client) (f .supported) sw (d .place) (d .held) l (eqb x lf) .direction;
+      server = h .server;
+      command = length-stored (s .command) (d .held) x (e .gives) ∙ h .command;
+      reply = h .reply;
+    })
+octet-kept f server s x h notFull =
+    let d : Direction = s .control .server in
+    let e : ServerEffect = serverEffectIn s x in
+    settled-kept (serverState s x e) (e .removes)
+    (record {
+      queue = h .queue;
+      client = h .client;
+      server = reply-sound (s .control .unfinished) (headOf (s .kinds) (s .control .owed)) (d .place) (d .held) (s .reply) (eqb x lf) .direction;
+      command = h .command;
+      reply = length-stored (s .reply) (d .held) x (e .gives) ∙ h .reply;
+    })
+
+-- ---- every octet of an arrival
+
+-- the state before an octet, of those that are not stopped
+abbrev stateAt : Fixed → Side → State → List ℕ → ℕ → State
+stateAt f d s xs k = octetSteps f d s (take k xs) .state
+
+steps-kept : (f : Fixed) (d : Side) (s : State) (xs : List ℕ) (k : ℕ) → k ≤ length xs → Kept s
+    → ((j : ℕ) → j < k → isQueueFull d (isPassing (stateAt f d s xs j .control .client .place)) (stateAt f d s xs j .control .owed) ≡ false)
+    → Kept (stateAt f d s xs k)
+unfolding octetSteps
+steps-kept f d s xs zero h m e = m
+steps-kept f d s [] (suc k) h m e = absurd (omega arith)
+steps-kept f d s (x ∷ xs) (suc k) h m e =
+    steps-kept f d (octetStep f d s x .state) xs k (omega arith) (octet-kept f d s x m (e 0 (omega arith))) (λ j l. e (suc j) (omega arith))
+
+kept : (s : Session) → Shaped s → Sound s → Kept (stateOf s)
+kept s shape w =
+    record {
+      queue = record { size = shape .kinds; most = w .owed; listed = each-listed (s .control .owed) (s .kinds) (w .listed) };
+      client = w .client;
+      server = w .server;
+      command = shape .command;
+      reply = shape .reply;
+    }
+
+small : (s : State) → Kept s → Small s
+small s h =
+    record {
+      owed = h .queue .most;
+      client = omega (arith, h .client .most, judged-most);
+      server = omega (arith, h .server .most, judged-most);
+    }
+
+module _ (c : Call) (octets : List ℕ) (shape : Shaped (c .session)) where
+  kept-before : (k : ℕ) → k ≤ length octets → Takes c octets k → Kept (before c octets k .state)
+  kept-before k h t =
+      steps-kept (fixedOf (c .session)) (sideOf (c .direction)) (stateOf (c .session)) octets k h
+      (kept (c .session) shape (t .accepted .sound)) (λ j l. queue-open c octets j (t .each j l .notFull))
+
+  -- "One octet writes at most 512 octets to the server and at most 1,280 to the client": each one that an arrival comes to and 1 does not stop
+  pub each-octet : (k : ℕ) → k < length octets → Takes c octets k → (Full c octets k → ⊥) → WritesAtMost (next c octets k)
+  each-octet k h t n =
+      octet-most (fixedOf (c .session)) (shape .mapped) (shape .octets) (before c octets k .state) (getD octets k 0)
+      (small (before c octets k .state) (kept-before k (omega arith) t)) (sideOf (c .direction)) (queue-open c octets k n)
+
+  -- where 1 is given, exactly 16 are owed
+  pub one-sixteen : (k : ℕ) → One c octets k → before c octets k .state .control .owed ≡ mostOwed
+  one-sixteen k o = omega (arith, kept-before k (omega (arith, o .more)) (o .takes) .queue .most, o .reason .owed)
+
+-- ---- calls
+
+session-kept : (s : Session) (d : Side) (k a b : ℕ) (t : State) → Shaped s → Sound s → Kept t
+    → Shaped (sessionAfter s d k a b t) × Sound (sessionAfter s d k a b t)
+unfolding sessionAfter
+session-kept s d k a b t shape w h = (
+  record { mapped = shape .mapped; octets = shape .octets; command = h .command; reply = h .reply; kinds = h .queue .size },
+  record {
+    live = w .live;
+    owed = h .queue .most;
+    listed = listed-each (t .control .owed) (t .kinds) (h .queue .listed);
+    client = h .client;
+    server = h .server;
+  },
+)
+
+end-kept : (d : Side) (s : State) → Kept s → Kept (endStep d s .state)
+unfolding endStep
+end-kept client s h = record { queue = h .queue; client = none-held _; server = h .server; command = h .command; reply = h .reply }
+end-kept server s h = record { queue = h .queue; client = h .client; server = none-held _; command = h .command; reply = h .reply }
+
+module _ (c : Call) (shape : Shaped (c .session)) (w : Sound (c .session)) where
+  abbrev Stays : Outcome → Type 0
+  Stays o = Shaped (o .called .session) × Sound (o .called .session)
+
+  unless-kept : (o : Outcome) → (Accepted c → Stays o) → Stays (unlessRefused (refusalOf (c .session) (c .direction)) (c .session) o)
+  unfolding unlessRefused refused
+  unless-kept o yields = by-refusal (refusalOf (c .session) (c .direction)) (refusal-of (c .session) (c .direction))
+    where
+      by-refusal : (r : Option Answer) → Refusal (c .session) (c .direction) r → Stays (unlessRefused r (c .session) o)
+      by-refusal r (unknown u) = (shape, w)
+      by-refusal r (bad k n) = (shape, w)
+      by-refusal r (over k n e) = (shape, w)
+      by-refusal r (accepted k n e) = yields (record { known = k; sound = n; notEnded = e })
+
+  took-kept : (octets : List ℕ) → Accepted c → Kept (took c octets .state)
+  took-kept octets a =
+      subst Kept (sym (it-takes c octets .state)) (kept-before c octets shape (took c octets .taken) (by-last (it-takes c octets .last)) (taken-first c octets a))
+    where
+      by-last : ItsLast c octets → took c octets .taken ≤ length octets
+      by-last (inl p) = omega (arith, p .0)
+      by-last (inr p) = omega (arith, p .0)
+
+  end-stays : (b : Bool) → Stays (endOutcome (c .session) (sideOf (c .direction)) (endStep (sideOf (c .direction)) (stateOf (c .session))) b)
+  unfolding endOutcome outcome refused
+  end-stays true =
+      session-kept (c .session) (sideOf (c .direction)) _ _ _ _ shape w (end-kept (sideOf (c .direction)) (stateOf (c .session)) (kept (c .session) shape w))
+  end-stays false = (shape, w)
+
+  -- a call on a record that number 4 lets through returns such a record
+  pub calls-keep : (o : Outcome) → Result c o → Shaped (o .called .session) × Sound (o .called .session)
+  unfolding arrived ended outcome
+  calls-keep o (arrival octets) =
+      unless-kept (result c octets) (λ a. session-kept (c .session) (sideOf (c .direction)) _ _ _ _ shape w (took-kept octets a))
+  calls-keep o ending = unless-kept (endResult c) (λ a. end-stays _)
+
+sixteen : 1 ≤ mostOwed
+unfolding mostOwed
+sixteen = lit≤ tt
+
+-- a fresh session is one
+pub fresh-kept : (address mapped : List ℕ) (flags : ℕ) → length mapped ≡ 4 → every (λ n. leb n 255) mapped ≡ true
+    → Shaped (freshSession address mapped flags) × Sound (freshSession address mapped flags)
+unfolding freshSession
+fresh-kept address mapped flags size octets = (
+  record {
+    mapped = size;
+    octets = octets;
+    command = length-replicate (judged - 1) 0;
+    reply = length-replicate (judged - 1) 0;
+    kinds = length-replicate mostOwed 0;
+  },
+  record {
+    live = refl;
+    owed = sixteen;
+    listed = λ i h. omega (arith, getD-replicate {A = ℕ} mostOwed i 0 0 (omega (arith, sixteen)));
+    client = none-held _;
+    server = none-held _;
+  },
+)
