@@ -132,8 +132,8 @@ refusals-leave-all r c t p e =
       toServer = p .toServer ∙ ap (λ (x : Outcome). x .called .written .server) same;
       toClient = p .toClient ∙ ap (λ (x : Outcome). x .called .written .client) same;
       session = p .session ∙ ap (λ (x : Outcome). x .called .session) same;
-      serverBuffer = p .serverBuffer ∙ ap (λ (x : Outcome). x .toServer ++ drop (length (x .toServer)) (lentServer c)) same;
-      clientBuffer = p .clientBuffer ∙ ap (λ (x : Outcome). x .toClient ++ drop (length (x .toClient)) (lentClient c)) same;
+      serverBuffer = p .serverBuffer ∙ rw (p .toServer) (ap (λ (x : Outcome). x .toServer ++ drop (x .called .written .server) (lentServer c)) same);
+      clientBuffer = p .clientBuffer ∙ rw (p .toClient) (ap (λ (x : Outcome). x .toClient ++ drop (x .called .written .client) (lentClient c)) same);
     }
 
 -- it adds nothing to the history

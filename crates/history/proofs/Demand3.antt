@@ -112,9 +112,9 @@ module _ (f : Fixed) (rules : LineRules) (agree : Agrees f rules) where
       let o : Outcome = outcomeOf r call in
       let items : madeItems gateway call t ≡ itemsOf call o = made-items r call t p in
       let server : take (t .toServer) (t .serverBuffer) ≡ o .toServer =
-      front (o .toServer) (drop (length (o .toServer)) (lentServer call)) (t .serverBuffer) (t .toServer) (p .toServer ∙ m .writtenServer) (p .serverBuffer) in
+      front (o .toServer) (drop (t .toServer) (lentServer call)) (t .serverBuffer) (t .toServer) (p .toServer ∙ m .writtenServer) (p .serverBuffer) in
       let client : take (t .toClient) (t .clientBuffer) ≡ o .toClient =
-      front (o .toClient) (drop (length (o .toClient)) (lentClient call)) (t .clientBuffer) (t .toClient) (p .toClient ∙ m .writtenClient) (p .clientBuffer) in
+      front (o .toClient) (drop (t .toClient) (lentClient call)) (t .clientBuffer) (t .toClient) (p .toClient ∙ m .writtenClient) (p .clientBuffer) in
       record {
         toServer = rw (server, items) (ap (λ (x : List ℕ). o .toServer ++ x) (h .toServer) ∙ sym (m .done .does .toServer (historyOf gateway l) (h .silent)));
         toClient = rw (client, items) (ap (λ (x : List ℕ). o .toClient ++ x) (h .toClient) ∙ sym (m .done .does .toClient (historyOf gateway l)));

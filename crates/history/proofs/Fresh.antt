@@ -87,8 +87,8 @@ returns r c =
         toServer = o .called .written .server;
         toClient = o .called .written .client;
         session = o .called .session;
-        serverBuffer = o .toServer ++ drop (length (o .toServer)) (lentServer c);
-        clientBuffer = o .toClient ++ drop (length (o .toClient)) (lentClient c);
+        serverBuffer = o .toServer ++ drop (o .called .written .server) (lentServer c);
+        clientBuffer = o .toClient ++ drop (o .called .written .client) (lentClient c);
       },
       record { answer = refl; taken = refl; toServer = refl; toClient = refl; session = refl; serverBuffer = refl; clientBuffer = refl },
     )

@@ -7,7 +7,7 @@ use Rattle.rules.specs.History.{Item, octet, end, sameSide}
 use Rattle.rules.specs.Exchanges.{Exchange, exchange, allOn, greeting, serverSays, printed}
 use Rattle.session.specs.declared.Session.{Session}
 use Rattle.session.specs.Calls.{Outcome, prepared, arrived, ended}
-use Rattle.history.specs.Gateway.{directionOf}
+use Rattle.history.specs.Gateway.{numberOf}
 
 -- octets that arrive together, or an end
 pub data Said : Type 0 where
@@ -36,8 +36,8 @@ abbrev pub room : ℕ
 room = 2000
 
 unfoldable pub saidOutcome : Session → Said → Outcome
-saidOutcome r (says d xs) = arrived r (directionOf d) xs room room
-saidOutcome r (ends d) = ended r (directionOf d) room room
+saidOutcome r (says d xs) = arrived r (numberOf d) xs room room
+saidOutcome r (ends d) = ended r (numberOf d) room room
 
 -- what has gone to the server and to the client
 unfoldable pub gone : Session → List Said → List ℕ × List ℕ

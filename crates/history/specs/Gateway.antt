@@ -28,12 +28,12 @@ pub record Promise (r : Session) (c : Call) (t : Return Session) : Type 0 where
   pub toServer : t .toServer ≡ outcomeOf r c .called .written .server
   pub toClient : t .toClient ≡ outcomeOf r c .called .written .client
   pub session : t .session ≡ outcomeOf r c .called .session
-  pub serverBuffer : t .serverBuffer ≡ outcomeOf r c .toServer ++ drop (length (outcomeOf r c .toServer)) (lentServer c)
-  pub clientBuffer : t .clientBuffer ≡ outcomeOf r c .toClient ++ drop (length (outcomeOf r c .toClient)) (lentClient c)
+  pub serverBuffer : t .serverBuffer ≡ outcomeOf r c .toServer ++ drop (t .toServer) (lentServer c)
+  pub clientBuffer : t .clientBuffer ≡ outcomeOf r c .toClient ++ drop (t .toClient) (lentClient c)
 
-abbrev pub directionOf : Side → ℕ
-directionOf client = 0
-directionOf server = 1
+abbrev pub numberOf : Side → ℕ
+numberOf client = 0
+numberOf server = 1
 
 -- the number that offset returns; it returns one for both directions
 abbrev pub offsetNumber : DirectionOffset → ℕ
@@ -46,5 +46,5 @@ gateway =
       Session = Session;
       Fresh = Fresh;
       Promise = Promise;
-      offset = λ r side. offsetNumber (sessionOffset r (directionOf side));
+      offset = λ r side. offsetNumber (sessionOffset r (numberOf side));
     }

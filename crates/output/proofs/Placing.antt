@@ -1,11 +1,11 @@
 -- Octets placed in a buffer, and one text placed after another.
 use mathlib.Core.Path.{_≡_, refl, sym, ap, _∙_}
 use mathlib.Core.Bool.{Bool, true, false, not}
-use mathlib.Core.List.{List, _++_, append-assoc}
+use mathlib.Core.List.{List, [], _++_, append-assoc}
 use Prim.Native.Nat.{ℕ, _+_, _<_, _≤_}
-use native.Mathlib.Nat.{add-assoc}
+use native.Mathlib.Nat.{add-assoc, add-zero}
 use native.Mathlib.Omega.{arith}
-use lib.ListN.{length, take, drop, length-append, length-drop}
+use lib.ListN.{length, take, drop, length-append, length-drop, take-append-drop}
 use lib.Seq.{length-take-le, take-at, drop-append-add, drop-drop}
 use lib.Dec.{leb}
 use borrow.Author.Tests.{le-leb, lt-leb, leb-true, leb-false, not-true, not-false}
@@ -76,3 +76,20 @@ module _ (out : List ℕ) (at : ℕ) (line : List ℕ) {n : ℕ} {fits : Bool} (
 
   pub room : not fits ≡ false → at + length line ≤ length out
   room t = omega (arith, leb-true (at + n) (length out) (sym tested ∙ not-false fits t))
+
+-- one text written is the other, which is the same
+pub written : (out : List ℕ) (at : ℕ) {text given after : List ℕ} {next : ℕ} → text ≡ given → Wrote out at text next after → Wrote out at given next after
+written out at e w = (w .0 ∙ ap (placeAfter out at) e, w .1 ∙ ap (placed out at) e)
+
+one-way : {A : Type 0} (b : Bool) {x y : A} → x ≡ y → y ≡ choose b x y
+unfolding choose
+one-way true e = sym e
+one-way false e = refl
+
+-- nothing placed changes nothing, whether `at` is in the buffer or not
+pub nothing-placed : (out : List ℕ) (at : ℕ) → Wrote out at [] at out
+unfolding placed placeAfter
+nothing-placed out at =
+    let here : at + 0 ≡ at = add-zero at in
+    let all : take at out ++ drop (at + 0) out ≡ out = rw here (take-append-drop at out) in
+    (one-way (fitsAt out at []) here, one-way (fitsAt out at []) all)

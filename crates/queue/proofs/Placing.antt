@@ -1,31 +1,11 @@
 -- Texts placed one after another in a buffer that has room for all of them.
 use mathlib.Core.Path.{_≡_, refl, sym, ap, _∙_}
-use mathlib.Core.Bool.{Bool, true, false}
 use mathlib.Core.List.{List, [], _++_}
 use Prim.Native.Nat.{ℕ, _+_, _≤_}
 use native.Mathlib.Omega.{arith}
-use lib.ListN.{length, take, drop, length-append, take-append-drop}
-use Rattle.rules.specs.Octets.{choose}
-use Rattle.output.specs.Buffer.{fitsAt, placed, placeAfter}
-use Rattle.output.proofs.Placing.{Wrote, after-fits, length-placed, placed-after}
-
-choose-same : {A : Type 0} (b : Bool) (x y : A) → x ≡ y → choose b x y ≡ y
-unfolding choose
-choose-same true x y e = e
-choose-same false x y e = refl
-
--- what is written for a text is written for one that is equal
-pub same-text : (out : List ℕ) (at : ℕ) {text other after : List ℕ} {next : ℕ} → other ≡ text → Wrote out at text next after → Wrote out at other next after
-same-text out at e w = (w .0 ∙ ap (placeAfter out at) (sym e), w .1 ∙ ap (placed out at) (sym e))
-
--- no text leaves the buffer as it is
-pub nothing : (out : List ℕ) (at : ℕ) → Wrote out at [] at out
-unfolding placed placeAfter
-nothing out at =
-    let zero : at + 0 ≡ at = omega arith in (
-      sym (choose-same (fitsAt out at []) (at + 0) at zero),
-      sym (choose-same (fitsAt out at []) (take at out ++ drop (at + 0) out) out (rw zero (take-append-drop at out))),
-    )
+use lib.ListN.{length, length-append}
+use Rattle.output.specs.Buffer.{placed}
+use Rattle.output.proofs.Placing.{Wrote, after-fits, length-placed, placed-after, nothing-placed}
 
 -- part of a text is placed from `at` on: what is left of it, from `next` on in the buffer `after`, makes the whole
 pub record Remaining (out : List ℕ) (at : ℕ) (text after : List ℕ) (next : ℕ) (left : List ℕ) : Type 0 where
@@ -64,5 +44,5 @@ module _ (out : List ℕ) (at : ℕ) (text : List ℕ) where
       let end = r .end in
       let place : next ≡ at + length text = omega arith in (
         place ∙ sym (after-fits out at text h),
-        nothing after next .1 ∙ ap (placed after next) (sym e) ∙ r .whole,
+        nothing-placed after next .1 ∙ ap (placed after next) (sym e) ∙ r .whole,
       )

@@ -57,8 +57,7 @@ use Rattle.session.specs.Core.{
   clientTurn,
   serverTurn,
 }
-use Rattle.output.proofs.Placing.{length-placed, placed-after, after-fits}
-use Rattle.session.proofs.Placing.{placed-nothing}
+use Rattle.output.proofs.Placing.{length-placed, placed-after, after-fits, nothing-placed}
 
 -- ---- fitting
 
@@ -347,7 +346,7 @@ module _ (f : Fixed) (c : Control) (command reply kinds : List ℕ) (x : ℕ) (t
         let place : next ≡ w .client + length givenS = hn ∙ after-fits toClient (w .client) givenS (omega arith) in
         let both : toClient′ ≡ placed toClient (w .client) (givenS ++ textS) = ht ∙ ((λ i. placed (hb i) (place i) (same i)) ∙ placed-after toClient (w .client) givenS textS whole) in
         let end : s .at ≡ w .client + length (givenS ++ textS) = omega (arith, ap length same) in
-        let none : toServer ≡ placed toServer (w .server) (S .toServer) = sym (ap (placed toServer (w .server)) server-nothing ∙ placed-nothing toServer (w .server) (bounded .server)) in
+        let none : toServer ≡ placed toServer (w .server) (S .toServer) = sym (ap (placed toServer (w .server)) server-nothing ∙ sym (nothing-placed toServer (w .server) .1)) in
         let m : w .server ≡ w .server + length (S .toServer) = omega (arith, ap length server-nothing) in
         let n : s .at ≡ w .client + length (S .toClient) = end ∙ ap (λ (l : List ℕ). w .client + length l) server-text in
         let fit = fits-both f server x coreS (omega (arith, ap length server-nothing)) (omega (arith, ap length server-text)) in (

@@ -8,12 +8,11 @@ use lib.ListN.{length, take, drop, length-drop}
 use Rattle.rules.specs.Octets.{choose}
 use Rattle.rules.specs.Replies.{headAnswers, authAtHead}
 use Rattle.output.specs.Buffer.{placed}
-use Rattle.output.proofs.Placing.{Wrote, after-fits, joined}
+use Rattle.output.proofs.Placing.{Wrote, after-fits, joined, written}
 use Rattle.effects.specs.declared.Place.{Place}
 use Rattle.effects.specs.declared.Direction.{Direction}
 use Rattle.effects.specs.Kinds.{queueOf, answersAtHead, shifted}
 use Rattle.queue.proofs.Answers.{length-queue, answers-most}
-use Rattle.queue.proofs.Placing.{same-text}
 use Rattle.session.specs.declared.Control.{Control}
 use Rattle.session.specs.declared.settling.Plan.{Plan}
 use Rattle.session.specs.Steps.{State, flowsOrEnded, blocked, owedFrom, leaving, answersText, passesFromNow, isAuthNext, settledState, settledText}
@@ -125,5 +124,5 @@ text-settled s n out at {p} {next} {end} {after} {last} planned h first second =
     let held = take (s .control .server .held) (s .reply) in
     let b = choose (isAuthNext s n) held [] in
     let same : b ≡ choose (p .auth) held [] = ap (λ (auth : Bool). choose auth held []) (sym (planned .auth)) in
-    let w : Wrote out at (answersText s n ++ b) end last = joined out at (answersText s n) b (λ _. first) (λ _. same-text after next same second) h in
+    let w : Wrote out at (answersText s n ++ b) end last = joined out at (answersText s n) b (λ _. first) (λ _. written after next (sym same) second) h in
     (w .0 ∙ after-fits out at (answersText s n ++ b) h, w .1)

@@ -30,7 +30,6 @@ use Rattle.session.specs.declared.Control.{Control}
 use Rattle.session.specs.declared.Counts.{Counts}
 use Rattle.session.specs.declared.Fixed.{Fixed}
 use Rattle.session.specs.declared.Session.{Session}
-use Rattle.session.specs.declared.Written.{Written}
 use Rattle.session.specs.declared.Prepared.{Prepared}
 use Rattle.session.specs.declared.Called.{Called}
 use Rattle.session.specs.declared.DirectionOffset.{DirectionOffset}

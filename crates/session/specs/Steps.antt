@@ -1,14 +1,12 @@
 -- What one octet does to the whole session: its own side, the queue, the own answers and the AUTH step.
-use mathlib.Core.Bool.{Bool, true, false, _&&_, _||_}
-use mathlib.Core.List.{List, [], _∷_, _++_}
-use Prim.Native.Nat.{ℕ, suc, _+_, _-_}
-use lib.Dec.{eqb, ltb, leb}
-use lib.ListN.{length, take, drop, set, getD}
+use mathlib.Core.Bool.{Bool, true, false, _||_}
+use mathlib.Core.List.{List, [], _++_}
+use Prim.Native.Nat.{ℕ, _+_, _-_}
+use lib.ListN.{take, drop, set}
 use Rattle.rules.specs.Octets.{choose}
-use Rattle.rules.specs.Answers.{Side, client, server, isQueueFull, fits, stop}
+use Rattle.rules.specs.Answers.{Side, client, server}
 use Rattle.rules.specs.Replies.{headAnswers, authAtHead}
 use Rattle.rules.specs.declared.Kind.{Kind}
-use Rattle.rules.specs.declared.Switches.{Switches}
 use Rattle.effects.specs.declared.Place.{Place}
 use Rattle.effects.specs.declared.Direction.{Direction}
 use Rattle.session.specs.declared.Control.{Control}

@@ -1,7 +1,8 @@
 -- By the cases of what is given; where that is no octet, nothing is placed.
 use borrow.Author.Needs.{needs}
 use Rattle.effects.specs.Effects.{givesText}
-use Rattle.effects.proofs.Texts.{text-of, written, nothing-placed}
+use Rattle.output.proofs.Placing.{written, nothing-placed}
+use Rattle.effects.proofs.Texts.{text-of}
 use Rattle.effects.proofs.put_gives.Statement.{statement}
 use Rattle.effects.proofs.put_gives.Tie as tie
 

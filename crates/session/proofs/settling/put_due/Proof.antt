@@ -1,7 +1,8 @@
 -- `session::settling::put_due` meets its contract: by whether own answers have to wait.
+use mathlib.Core.Path.{sym}
 use mathlib.Core.List.{[]}
 use borrow.Author.Needs.{needs}
-use Rattle.queue.proofs.Placing.{same-text, nothing}
+use Rattle.output.proofs.Placing.{written, nothing-placed}
 use Rattle.session.specs.Core.{stateFrom}
 use Rattle.session.proofs.Settles.{no-text, the-text}
 use Rattle.session.proofs.settling.put_due.Statement.{statement}
@@ -14,7 +15,7 @@ returns : tie.Need-returns
 returns c =
     let test = c .before in
     let a = test .before .before .args in
-    same-text (a .out .now) (a .at) (no-text (stateFrom (a .control) [] [] (a .kinds)) (a .from) (test .blocked .ensures) (c .if1 .taken)) (nothing (a .out .now) (a .at))
+    written (a .out .now) (a .at) (sym (no-text (stateFrom (a .control) [] [] (a .kinds)) (a .from) (test .blocked .ensures) (c .if1 .taken))) (nothing-placed (a .out .now) (a .at))
 
 put-answers-requires : tie.Need-put-answers-requires
 put-answers-requires c κs = search needs
@@ -28,7 +29,7 @@ returns-2 c =
     let else = put .before .before in
     let test = else .before in
     let a = test .before .before .args in
-    same-text (a .out .now) (a .at) (the-text (stateFrom (a .control) [] [] (a .kinds)) (a .from) (test .blocked .ensures) (else .if1 .left)) (put .put-answers .ensures)
+    written (a .out .now) (a .at) (sym (the-text (stateFrom (a .control) [] [] (a .kinds)) (a .from) (test .blocked .ensures) (else .if1 .left))) (put .put-answers .ensures)
 
 pub put-due-spec : {M : Type 1} → statement M
 put-due-spec =
