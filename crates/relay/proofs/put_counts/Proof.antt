@@ -1,0 +1,42 @@
+-- `relay::put_counts`: three stores, where there is room for them.
+use mathlib.Core.Path.{sym}
+use native.Mathlib.Omega.{arith}
+use lib.ListN.{length-set}
+use borrow.Author.Tests.{le-leb, lt-leb}
+use borrow.Author.Needs.{needs}
+use Rattle.rules.specs.Octets.{choose}
+use Rattle.relay.specs.First.{countsAfter}
+use Rattle.relay.proofs.Copies.{three-stored}
+use Rattle.relay.proofs.put_counts.Statement.{statement}
+use Rattle.relay.proofs.put_counts.Tie as tie
+
+returns : tie.Need-returns
+unfolding countsAfter choose
+returns c = rw (lt-leb 3 _ (c .if1 .taken))
+
+slice-write-counts : tie.Need-slice-write-counts
+slice-write-counts c = search needs
+
+slice-write-counts-2 : tie.Need-slice-write-counts-2
+slice-write-counts-2 c = simp length-set (omega arith)
+
+slice-write-counts-3 : tie.Need-slice-write-counts-3
+slice-write-counts-3 c = search needs
+
+same-length : tie.Need-same-length
+same-length c = search needs
+
+returns-2 : tie.Need-returns-2
+unfolding countsAfter choose
+returns-2 c = rw (le-leb 3 _ (c .if1 .left)) (three-stored (c .before .args .counts .now) (c .before .args .t .taken) (c .before .args .t .server) (c .before .args .t .client) (c .if1 .left))
+
+pub put-counts-spec : {M : Type 1} → statement M
+put-counts-spec =
+    tie.close
+    (tie.spec
+    returns
+    slice-write-counts
+    slice-write-counts-2
+    slice-write-counts-3
+    same-length
+    returns-2)
