@@ -160,10 +160,20 @@ def crate(folder, cases):
     (folder / "proofs" / "Cases.antt").write_text(text)
 
 
+def computed(cases):
+    """What the checker says to a crate of these cases."""
+    with tempfile.TemporaryDirectory() as place:
+        top = pathlib.Path(place)
+        shutil.copytree(ROOT / "crates" / "rules", top / "crates" / "rules")
+        crate(top / "crates" / "cases", cases)
+        (top / "crates.txt").write_text("rules:\ncases: rules\n")
+        return subprocess.run(["rt", "check", "cases"], cwd=top, capture_output=True, text=True)
+
+
 def main():
     replay = pathlib.Path(sys.argv[1]).resolve()
     seed = int(sys.argv[2]) if len(sys.argv) > 2 else 1
-    count = int(sys.argv[3]) if len(sys.argv) > 3 else 200
+    count = max(1, int(sys.argv[3])) if len(sys.argv) > 3 else 200
     r = random.Random(seed)
     cases = []
     while len(cases) < count:
@@ -171,17 +181,16 @@ def main():
         sent = replayed(replay, flags, entries)
         if sent is not None:
             cases.append((flags, entries, sent))
-    with tempfile.TemporaryDirectory() as place:
-        top = pathlib.Path(place)
-        shutil.copytree(ROOT / "crates" / "rules", top / "crates" / "rules")
-        crate(top / "crates" / "cases", cases)
-        (top / "crates.txt").write_text("rules:\ncases: rules\n")
-        result = subprocess.run(["rt", "check", "cases"], cwd=top, capture_output=True, text=True)
+    result = computed(cases)
     if result.returncode:
         print("\n".join(x[:600] for x in result.stdout.splitlines() if "error" in x or "FAILED" in x))
         print(f"the definitions and the reference differ: seed {seed}, {count} sessions; agreeN is sessions 8N to 8N+7")
         return 1
-    print(f"{count} sessions of seed {seed}: the definitions give what the reference writes")
+    flags, entries, sent = cases[0]
+    if not computed([(flags, entries, (sent[0], sent[1] + b"x"))]).returncode:
+        print("an octet too many was not noticed: this test shows nothing")
+        return 1
+    print(f"{count} sessions of seed {seed}: the definitions give what the reference writes, and an octet too many is noticed")
     return 0
 
 

@@ -95,7 +95,7 @@ def faults():
             if name not in known.get(module, ()):
                 yield f"{where}: {module}.{name} is not declared"
         for crate, name in re.findall(r"`([a-z]+)::(\w+)`", text):
-            sources = ROOT.glob(f"crates/{crate}/src/*.rt")
+            sources = ROOT.glob(f"crates/{crate}/src/lib.rt")
             if not any(re.search(rf"^pub (?:extern \"C\" )?fn {name}\b", source.read_text(), re.M) for source in sources):
                 yield f"{where}: {crate}::{name} is no public function"
     for title in TRACED:
