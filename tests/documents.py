@@ -14,7 +14,7 @@ ROOT = pathlib.Path(__file__).resolve().parent.parent
 SCOPE = ROOT / "docs" / "01-scope.md"
 TRACE = ROOT / "docs" / "TRACE.md"
 DOCUMENTS = [ROOT / "README.md", *sorted((ROOT / "docs").glob("*.md"))]
-TRACED = ["The session", "Lines", "Client lines", "Server lines", "Demand 3 written out"]
+TRACED = ["The session", "Lines", "Client lines", "Server lines", "Demand 3 written out", "Session files"]
 BELIEVED = ["rules"]
 # how many words of document 01 may stand between two pieces that are traced
 GAP = 4
@@ -64,7 +64,8 @@ def section(document, title):
 def untraced(title):
     """Faults of a section's rows: words that document 01 has not, and words of it that no row has."""
     rows = [line for line in section(TRACE, title).splitlines() if line.startswith("| ") and not line.startswith("| Sentence")]
-    text = plain(re.sub(r"(?<!\|)\|(?!\|)", " ", section(SCOPE, title)))
+    prose = re.sub(r"^```.*?^```", "", section(SCOPE, title), flags=re.M | re.S)
+    text = plain(re.sub(r"(?<!\|)\|(?!\|)", " ", prose))
     left = text
     for row in rows:
         cell = plain(re.split(r"(?<!\\) \| ", row[2:])[0])
