@@ -4,7 +4,7 @@
   public function of the crate `lines`; a relative link must lead to a file.
 - The first cell of each row of docs/TRACE.md is words of document 01 (`..` stands for words left out; a cell in brackets is ours), and
   together the rows cover the sections traced.
-- Every definition of the crate that a reader has to believe stands in docs/TRACE.md.
+- Every definition of the crates that a reader has to believe stands in docs/TRACE.md.
 """
 import pathlib
 import re
@@ -15,7 +15,9 @@ SCOPE = ROOT / "docs" / "01-scope.md"
 TRACE = ROOT / "docs" / "TRACE.md"
 DOCUMENTS = [ROOT / "README.md", *sorted((ROOT / "docs").glob("*.md"))]
 TRACED = ["The session", "Lines", "Client lines", "Server lines", "Demand 3 written out", "Session files"]
-BELIEVED = ["rules"]
+BELIEVED = ["rules", "effects", "session"]
+# pages that only private functions cite
+PRIVATE = {"Core", "Refused"}
 # how many words of document 01 may stand between two pieces that are traced
 GAP = 4
 
@@ -39,10 +41,10 @@ def modules():
 
 
 def definitions():
-    """What a reader has to believe: each declaration of the believed crate that is no field."""
+    """What a reader has to believe: each declaration of the believed crates that is no field."""
     for crate in BELIEVED:
         for path in sorted(ROOT.glob(f"crates/{crate}/specs/**/*.antt")):
-            if path.stem == "Lib":
+            if path.stem == "Lib" or path.stem in PRIVATE:
                 continue
             text = path.read_text()
             fields = set(FIELD.findall(re.sub(r"^  pub (\S+) : .*→ Type 0 where", "", text, flags=re.M)))
