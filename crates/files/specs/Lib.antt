@@ -2,3 +2,4 @@
 pub mod Table
 pub mod Report
 pub mod Printed
+pub mod Parts
