@@ -1,6 +1,6 @@
 -- The argument of EPRT by the places of its delimiters, and its fields by what each was read as.
 use mathlib.Core.Path.{_≡_, refl, sym, ap, _∙_}
-use mathlib.Core.Bool.{Bool, true, false, _&&_, and-false}
+use mathlib.Core.Bool.{Bool, true, false, and-true, and-false}
 use mathlib.Core.List.{List, [], _∷_}
 use mathlib.Core.Option.{Option, none, some}
 use Prim.Native.Nat.{ℕ, _+_, _-_, _<_, _≤_}
@@ -96,10 +96,6 @@ one-octet : (s : List ℕ) → length s ≡ 1 → equal s (50 ∷ []) ≡ eqb (g
 unfolding equal
 one-octet [] h = absurd (omega arith)
 one-octet (x ∷ []) h = and-true (eqb x 50)
-  where
-    and-true : (b : Bool) → b && true ≡ b
-    and-true true = refl
-    and-true false = refl
 one-octet (x ∷ y ∷ s) h = absurd (omega arith)
 
 pub other-octet : (s : List ℕ) → length s ≡ 1 → (getD s 0 0 ≡ 50 → ⊥) → equal s (50 ∷ []) ≡ false

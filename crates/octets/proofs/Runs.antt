@@ -1,7 +1,7 @@
 -- Laws of `run` and `every` at an index, over any test.
 use mathlib.Core.Path.{_≡_, refl, sym, _∙_}
 use mathlib.Core.Bool.{Bool, true, false, _&&_}
-use mathlib.Core.List.{List, [], _∷_}
+use mathlib.Core.List.{List, [], _∷_, _++_}
 use Prim.Native.Nat.{ℕ, zero, suc, _+_, _-_, _<_, _≤_}
 use native.Mathlib.Numerals.{add-one}
 use native.Mathlib.Omega.{arith}
@@ -66,23 +66,24 @@ every-reached p s e q h = every-run p s ∙ eq-eqb (run p s) (length s) (omega (
 pub every-short : (p : ℕ → Bool) (s : List ℕ) (e : ℕ) → e ≡ 0 + run p (drop 0 s) → e < length s → every p s ≡ false
 every-short p s e q h = every-run p s ∙ ne-eqb (run p s) (length s) (λ (t : run p s ≡ length s). omega arith)
 
-front-cons : (p : ℕ → Bool) (x : ℕ) (s : List ℕ) (b : Bool) → p x ≡ b → every p (take (run p s) s) ≡ true → every p (take (choose b (suc (run p s)) 0) (x ∷ s)) ≡ true
-unfolding every choose
-front-cons p x s true e h = rw e h
-front-cons p x s false e h = refl
-
--- every octet of the run passes
-pub every-front : (p : ℕ → Bool) (s : List ℕ) → every p (take (run p s) s) ≡ true
-unfolding every run
-every-front p [] = refl
-every-front p (x ∷ s) = front-cons p x s (p x) refl (every-front p s)
-
 -- where every octet passes, the one at i does
 pub every-get : (p : ℕ → Bool) (s : List ℕ) (i : ℕ) → every p s ≡ true → i < length s → p (getD s i 0) ≡ true
 unfolding every
 every-get p [] i e h = absurd (omega arith)
 every-get p (x ∷ s) zero e h = and-both (p x) (every p s) e .0
 every-get p (x ∷ s) (suc i) e h = every-get p s i (and-both (p x) (every p s) e .1) (omega arith)
+
+-- and so do those of a rest, and of two texts joined
+pub every-drop : (p : ℕ → Bool) (n : ℕ) (s : List ℕ) → every p s ≡ true → every p (drop n s) ≡ true
+unfolding every
+every-drop p zero s e = e
+every-drop p (suc n) [] e = refl
+every-drop p (suc n) (x ∷ s) e = every-drop p n s (and-both (p x) (every p s) e .1)
+
+pub every-append : (p : ℕ → Bool) (s t : List ℕ) → every p s ≡ true → every p t ≡ true → every p (s ++ t) ≡ true
+unfolding every
+every-append p [] t e f = f
+every-append p (x ∷ s) t e f = rw (and-both (p x) (every p s) e .0) (every-append p s t (and-both (p x) (every p s) e .1) f)
 
 -- ---- a run that starts at a place of a longer text
 

@@ -1,6 +1,6 @@
 -- Laws of the tests of a server line's first octets, and of the rules by them.
 use mathlib.Core.Path.{_≡_, refl, sym}
-use mathlib.Core.Bool.{Bool, true, false, _&&_, _||_}
+use mathlib.Core.Bool.{Bool, true, false, _&&_, _||_, and-false}
 use mathlib.Core.List.{List, [], _∷_}
 use Prim.Native.Nat.{ℕ, _+_, _<_, _≤_}
 use native.Mathlib.Omega.{arith}
@@ -14,14 +14,6 @@ use Rattle.rules.specs.declared.ReplyLine.{ReplyLine}
 use Rattle.octets.proofs.Words.{equal-lengths}
 use Rattle.replies.specs.Codes.{startsWithCode, startsWith227}
 use Rattle.octets.proofs.Runs.{after-at}
-
-and-false : (a : Bool) → (a && false) ≡ false
-and-false true = refl
-and-false false = refl
-
-pub and-true : (a : Bool) → (a && true) ≡ a
-and-true true = refl
-and-true false = refl
 
 -- a test that fewer than k octets fail: who passes it has k octets
 long-by : (p : List ℕ → Bool) (k : ℕ) (c : List ℕ) (b : Bool) → leb k (length c) ≡ b → (length c < k → p c ≡ false) → p c ≡ true → k ≤ length c

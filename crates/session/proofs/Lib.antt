@@ -1,5 +1,6 @@
 -- Laws that the proofs of this crate's functions cite.
 pub mod Tests
+pub mod Stops
 pub mod Sides
 pub mod Wrapping
 pub mod Flags

@@ -1,6 +1,6 @@
 -- One octet on the state and the buffers: whether its step fits, and what is there after it.
 use mathlib.Core.Path.{_≡_, refl, sym, ap, subst, _∙_}
-use mathlib.Core.Bool.{Bool, true, false, _&&_}
+use mathlib.Core.Bool.{Bool, true, false, and-false}
 use mathlib.Core.List.{List, [], _∷_, _++_}
 use Prim.Native.Nat.{ℕ, _+_, _-_, _<_, _≤_}
 use native.Mathlib.Nat.{add-assoc}
@@ -60,10 +60,6 @@ use Rattle.session.specs.Core.{
 use Rattle.output.proofs.Placing.{length-placed, placed-after, after-fits, nothing-placed}
 
 -- ---- fitting
-
-and-false : (b : Bool) → b && false ≡ false
-and-false true = refl
-and-false false = refl
 
 module _ (f : Fixed) (d : Side) (x : ℕ) (k : Core) where
   abbrev step : Step

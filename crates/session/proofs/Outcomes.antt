@@ -1,6 +1,6 @@
 -- What a call promises, from what its parts promise.
 use mathlib.Core.Path.{_≡_, sym, ap, _∙_}
-use mathlib.Core.Bool.{Bool, true, false}
+use mathlib.Core.Bool.{Bool, true, false, and-true}
 use mathlib.Core.List.{List, [], _++_}
 use mathlib.Core.Option.{Option, none}
 use Prim.Native.Nat.{ℕ, _≤_, _<_}
@@ -36,7 +36,6 @@ use Rattle.session.specs.Calls.{
 }
 use Rattle.session.specs.Core.{Core, coreFrom, coreTook}
 use Rattle.session.specs.Refused.{refusalBy}
-use Rattle.session.proofs.Tests.{with-true}
 use Rattle.session.proofs.Sides.{not-zero}
 use Rattle.session.proofs.Refusals.{by-answer}
 use Rattle.session.proofs.Placing.{front-placed}
@@ -132,7 +131,7 @@ module _ (s : Session) (d : ℕ) (out other : List ℕ) (free : refusalOf s d �
       → ended s d (length out) (length other) ≡ endOutcome s client (endStep client (stateOf s)) (leb (s .control .client .held) (length out))
   unfolding ended unlessRefused endStep fits
   client-ends z h =
-      rw (free, z, length-take-le (s .control .client .held) (s .command) h, leb·zero (length other), with-true (leb (s .control .client .held) (length out)))
+      rw (free, z, length-take-le (s .control .client .held) (s .command) h, leb·zero (length other), and-true (leb (s .control .client .held) (length out)))
 
   pub server-ends : (d ≡ 0 → ⊥) → s .control .server .held ≤ length (s .reply)
       → ended s d (length out) (length other) ≡ endOutcome s server (endStep server (stateOf s)) (leb (s .control .server .held) (length other))

@@ -10,13 +10,14 @@ use Rattle.rules.specs.Octets.{choose}
 use Rattle.rules.specs.Lines.{judged}
 use Rattle.rules.specs.Answers.{mostOwed, soundHeld, soundRecord, refusal}
 use Rattle.rules.specs.declared.Answer.{Answer}
+use Rattle.octets.proofs.Ranges.{and-both}
 use Rattle.effects.specs.declared.Place.{Place}
 use Rattle.effects.specs.declared.Direction.{Direction}
 use Rattle.session.specs.declared.Session.{Session}
 use Rattle.session.specs.declared.refusing.Refusal.{Refusal}
 use Rattle.session.specs.Calls.{isHolding, soundDirection, sound, refusalOf}
 use Rattle.session.specs.Refused.{refusalBy}
-use Rattle.session.proofs.Tests.{both}
+use Rattle.session.proofs.Stops.{refusal-cases}
 
 -- a direction's place says what it may hold
 pub at-place : (d : Direction) {p : Place} → d .place ≡ p → soundHeld (isHolding p) (d .held) ≡ soundDirection d
@@ -81,11 +82,9 @@ pub record Countable (s : Session) : Type 0 where
   pub command : s .control .client .held ≤ 511
   pub reply : s .control .server .held ≤ 511
 
-none-chosen : (x y z : Answer) (t s e : Bool) → choose t (some x) (choose (not s) (some y) (choose e (some z) none)) ≡ none → s ≡ true
-unfolding choose
-none-chosen x y z false true e q = refl
-none-chosen x y z false false e q = cc
-none-chosen x y z true s e q = cc
+not-bad : (d : ℕ) (s e : Bool) → refusal d s e ≡ none → s ≡ true
+not-bad d s e =
+    refusal-cases (λ o. o ≡ none → s ≡ true) d s e (λ t q. cc) (λ t u q. cc) (λ t u v q. cc) (λ t u v q. u)
 
 place-holds : (p : Place) (n : ℕ) → soundHeld (isHolding p) n ≡ true → n ≤ 511
 unfolding soundHeld choose judged
@@ -98,16 +97,16 @@ sound-parts : (live : Bool) (owed : ℕ) (k c s : Bool) → soundRecord live owe
 unfolding soundRecord mostOwed
 sound-parts live owed k c s h =
     let few = leb owed 16 in
-    let a = both (live && few && k && c) s h in
-    let b = both (live && few && k) c (a .0) in
-    let l = both live few (both (live && few) k (b .0) .0) in
+    let a = and-both (live && few && k && c) s h in
+    let b = and-both (live && few && k) c (a .0) in
+    let l = and-both live few (and-both (live && few) k (b .0) .0) in
     (leb-true owed 16 (l .1), b .1, a .1)
 
 pub countable : (s : Session) (d : ℕ) → refusalOf s d ≡ none → Countable s
-unfolding refusalOf refusal sound soundDirection
+unfolding refusalOf sound soundDirection
 countable s d h =
     let k = s .control in
-    let p = sound-parts _ _ _ _ _ (none-chosen _ _ _ _ _ _ h) in
+    let p = sound-parts _ _ _ _ _ (not-bad d _ _ h) in
     record {
       owed = p .0;
       command = place-holds (k .client .place) (k .client .held) (p .1);

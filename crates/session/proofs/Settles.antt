@@ -9,6 +9,7 @@ use Rattle.rules.specs.Octets.{choose}
 use Rattle.rules.specs.Replies.{headAnswers, authAtHead}
 use Rattle.output.specs.Buffer.{placed}
 use Rattle.output.proofs.Placing.{Wrote, after-fits, joined, written}
+use Rattle.octets.proofs.Choices.{choose-true, choose-false, either}
 use Rattle.effects.specs.declared.Place.{Place}
 use Rattle.effects.specs.declared.Direction.{Direction}
 use Rattle.effects.specs.Kinds.{queueOf, answersAtHead, shifted}
@@ -17,14 +18,6 @@ use Rattle.session.specs.declared.Control.{Control}
 use Rattle.session.specs.declared.settling.Plan.{Plan}
 use Rattle.session.specs.Steps.{State, flowsOrEnded, blocked, owedFrom, leaving, answersText, passesFromNow, isAuthNext, settledState, settledText}
 use Rattle.session.specs.Core.{Planned, settledControl, stateFrom}
-
-pub chosen : {A : Type 0} {b : Bool} (x y : A) → b ≡ true → choose b x y ≡ x
-unfolding choose
-chosen x y e = ap (λ (c : Bool). choose c x y) e
-
-pub not-chosen : {A : Type 0} {b : Bool} (x y : A) → b ≡ false → choose b x y ≡ y
-unfolding choose
-not-chosen x y e = ap (λ (c : Bool). choose c x y) e
 
 -- ---- whether own answers wait
 
@@ -39,19 +32,19 @@ blocked-by-place c e f = sym (ap (λ (u : Bool). u || flowsOrEnded (c .server .p
 module _ (s : State) (n : ℕ) {b : Bool} (tested : b ≡ blocked (s .control)) where
   stays : b ≡ true → leaving s n ≡ n
   unfolding leaving
-  stays e = chosen n (n + answersAtHead (owedFrom s n)) (sym tested ∙ e)
+  stays e = choose-true n (n + answersAtHead (owedFrom s n)) (sym tested ∙ e)
 
   leaves : b ≡ false → leaving s n ≡ n + answersAtHead (owedFrom s n)
   unfolding leaving
-  leaves e = not-chosen n (n + answersAtHead (owedFrom s n)) (sym tested ∙ e)
+  leaves e = choose-false n (n + answersAtHead (owedFrom s n)) (sym tested ∙ e)
 
   pub no-text : b ≡ true → answersText s n ≡ []
   unfolding answersText
-  no-text e = chosen [] (headAnswers (owedFrom s n)) (sym tested ∙ e)
+  no-text e = choose-true [] (headAnswers (owedFrom s n)) (sym tested ∙ e)
 
   pub the-text : b ≡ false → answersText s n ≡ headAnswers (owedFrom s n)
   unfolding answersText
-  the-text e = not-chosen [] (headAnswers (owedFrom s n)) (sym tested ∙ e)
+  the-text e = choose-false [] (headAnswers (owedFrom s n)) (sym tested ∙ e)
 
   next-auth : {m : ℕ} → m ≡ leaving s n → authAtHead (owedFrom s m) ≡ isAuthNext s n
   unfolding isAuthNext
@@ -78,11 +71,6 @@ module _ (s : State) (n : ℕ) {b : Bool} (tested : b ≡ blocked (s .control)) 
 
 -- ---- what leaves the queue was owed
 
-choose-most : (b : Bool) (x y m : ℕ) → x ≤ m → y ≤ m → choose b x y ≤ m
-unfolding choose
-choose-most true x y m p q = p
-choose-most false x y m p q = q
-
 pub leaving-most : (s : State) (n : ℕ) → n ≤ s .control .owed → leaving s n ≤ s .control .owed
 unfolding leaving
 leaving-most s n h =
@@ -90,7 +78,7 @@ leaving-most s n h =
     let owed : length q ≤ s .control .owed = length-queue (s .kinds) (s .control .owed) in
     let count : answersAtHead (drop n q) ≤ length (drop n q) = answers-most (drop n q) in
     let rest : length (drop n q) ≡ length q - n = length-drop n q in
-    choose-most (blocked (s .control)) n (n + answersAtHead (drop n q)) (s .control .owed) h (omega arith)
+    either (λ (m : ℕ). m ≤ s .control .owed) (blocked (s .control)) n (n + answersAtHead (drop n q)) h (omega arith)
 
 -- ---- the state then, and what is written
 

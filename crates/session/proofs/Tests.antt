@@ -1,6 +1,6 @@
--- Tests of every element of a list, and of two things at once.
-use mathlib.Core.Path.{_≡_, refl}
-use mathlib.Core.Bool.{Bool, true, false, _&&_}
+-- Tests of every element of a list.
+use mathlib.Core.Path.{_≡_}
+use mathlib.Core.Bool.{Bool, true, false}
 use mathlib.Core.List.{List}
 use Prim.Native.Nat.{ℕ, _+_, _<_, _≤_}
 use native.Mathlib.Numerals.{add-one}
@@ -23,11 +23,3 @@ module _ (p : ℕ → Bool) (l : List ℕ) (n i : ℕ) (short : n ≤ length l) 
   every-end h =
       let past : length (take n l) ≤ i = rw (length-take-le n l short) h in
       rw (drop-of-length-le (take n l) past)
-
-pub both : (a b : Bool) → (a && b) ≡ true → (a ≡ true) × (b ≡ true)
-both true b h = (refl, h)
-both false b h = (h, cc)
-
-pub with-true : (b : Bool) → (b && true) ≡ b
-with-true true = refl
-with-true false = refl

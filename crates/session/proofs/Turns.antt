@@ -13,6 +13,7 @@ use Rattle.rules.specs.Answers.{client, mostOwed, isQueueFull}
 use Rattle.rules.specs.declared.Kind.{Kind}
 use Rattle.rules.specs.declared.Switches.{Switches}
 use Rattle.rules.specs.declared.ReplyLine.{ReplyLine}
+use Rattle.octets.proofs.Choices.{by-test}
 use Rattle.effects.specs.declared.Place.{Place}
 use Rattle.effects.specs.declared.Direction.{Direction}
 use Rattle.effects.specs.declared.Owes.{Owes}
@@ -43,12 +44,6 @@ use Rattle.session.specs.Steps.{State, leaving, answersText, isAuthNext,
 use Rattle.session.specs.Calls.{isPassing}
 use Rattle.session.specs.Core.{stateFrom, Planned, Counted, Turned, clientTurn, serverTurn}
 
--- what holds of both choices, each where its test says so, holds of what is chosen
-chosen : {A : Type 0} (P : A → Type 0) (b : Bool) (x y : A) → (b ≡ true → P x) → (b ≡ false → P y) → P (choose b x y)
-unfolding choose
-chosen P true x y p q = p refl
-chosen P false x y p q = q refl
-
 -- one octet more than is held, where that is below the judged length
 held-below : (n : ℕ) → ltb (n + 1) judged ≡ true → n + 1 ≤ 511
 unfolding judged
@@ -60,8 +55,8 @@ place-held : (a : List ℕ) (b : Bool) (sw : Switches) (p : Place) (n : ℕ) (h 
 unfolding placeEffect judgedEffect joinEffect
 place-held a b sw Place.Holding n h true = omega arith
 place-held a b sw Place.Holding n h false =
-    chosen (λ (e : ClientEffect). e .direction .held ≤ 511) (ltb (n + 1) judged) _ _ (λ t. held-below n t)
-    (λ _. chosen (λ (e : ClientEffect). e .direction .held ≤ 511) _ _ _ (λ _. omega arith) (λ _. omega arith))
+    by-test (λ (e : ClientEffect). e .direction .held ≤ 511) (ltb (n + 1) judged) _ _ (λ t. held-below n t)
+    (λ _. by-test (λ (e : ClientEffect). e .direction .held ≤ 511) _ _ _ (λ _. omega arith) (λ _. omega arith))
 place-held a b sw Place.Flowing n h true = omega arith
 place-held a b sw Place.Flowing n h false = omega arith
 place-held a b sw Place.Passing n h lf = omega arith
@@ -130,7 +125,7 @@ removed-one Kind.Auth = omega arith
 head-removed : (kinds : List ℕ) (owed : ℕ) → headRemoved (headOf kinds owed) ≤ owed
 unfolding headOf headRemoved
 head-removed kinds owed =
-    chosen (λ (o : Owes). headRemoved o ≤ owed) (eqb owed 0) _ _ (λ _. omega arith)
+    by-test (λ (o : Owes). headRemoved o ≤ owed) (eqb owed 0) _ _ (λ _. omega arith)
     (λ h. omega (arith, removed-one (kindOf (getD kinds 0 0)), eqb-false owed 0 h))
 
 line-removes : (r : ReplyLine) (o : Owes) → lineRemoves r o ≤ headRemoved o
@@ -143,7 +138,7 @@ reply-held : (u : Bool) (o : Owes) (p : Place) (n : ℕ) (line : List ℕ) (lf :
 unfolding replyEffect wholeLine flowingLine replyOctet
 reply-held u o Place.Holding n line true = omega arith
 reply-held u o Place.Holding n line false =
-    chosen (λ (e : ServerEffect). e .direction .held ≤ 511) (ltb (n + 1) judged) _ _ (λ t. held-below n t) (λ _. omega arith)
+    by-test (λ (e : ServerEffect). e .direction .held ≤ 511) (ltb (n + 1) judged) _ _ (λ t. held-below n t) (λ _. omega arith)
 reply-held u o Place.Flowing n line true = omega arith
 reply-held u o Place.Flowing n line false = omega arith
 reply-held u o Place.Passing n line lf = omega arith
@@ -153,7 +148,7 @@ reply-removes : (u : Bool) (o : Owes) (p : Place) (n : ℕ) (line : List ℕ) (l
 unfolding replyEffect wholeLine flowingLine replyOctet
 reply-removes u o Place.Holding n line true = line-removes _ o
 reply-removes u o Place.Holding n line false =
-    chosen (λ (e : ServerEffect). e .removes ≤ headRemoved o) (ltb (n + 1) judged) _ _ (λ t. omega arith) (λ _. omega arith)
+    by-test (λ (e : ServerEffect). e .removes ≤ headRemoved o) (ltb (n + 1) judged) _ _ (λ t. omega arith) (λ _. omega arith)
 reply-removes u o Place.Flowing n line true = line-removes _ o
 reply-removes u o Place.Flowing n line false = omega arith
 reply-removes u o Place.Passing n line lf = omega arith

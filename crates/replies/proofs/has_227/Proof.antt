@@ -1,8 +1,8 @@
 -- `replies::has_227` meets its contract: the definition is the same four tests, once there are four octets.
 use mathlib.Core.Path.{sym}
-use mathlib.Core.Bool.{false}
+use mathlib.Core.Bool.{false, and-true}
 use borrow.Author.Tests.{eq-eqb, ne-eqb}
-use Rattle.replies.proofs.Codes.{passive-short, passive-tests, and-true}
+use Rattle.replies.proofs.Codes.{passive-short, passive-tests}
 use borrow.Author.Needs.{needs}
 use Rattle.replies.proofs.has_227.Statement.{statement}
 use Rattle.replies.proofs.has_227.Tie as tie
