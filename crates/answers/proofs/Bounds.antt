@@ -6,8 +6,8 @@ use mathlib.Core.Option.{Option, none}
 use Prim.Native.Nat.{ℕ, zero, suc, _+_, _*_, _≤_, _<_}
 use native.Mathlib.Omega.{arith}
 use lib.Dec.{eqb}
-use lib.ListN.{length, take, length-append, length-drop, length-map}
-use borrow.Author.Tests.{leb-false, ltb-true, le-leb}
+use lib.ListN.{length, take, length-append, length-drop}
+use borrow.Author.Tests.{ltb-true, le-leb}
 use Rattle.rules.specs.Octets.{lf, choose, every}
 use Rattle.rules.specs.Answers.{
   Side,
@@ -54,6 +54,8 @@ use Rattle.effects.specs.Effects.{
   replyEffect,
   serverEffect,
 }
+use Rattle.octets.proofs.Choices.{either, by-test}
+use Rattle.queue.proofs.Answers.{length-queue}
 use Rattle.session.specs.declared.Fixed.{Fixed}
 use Rattle.session.specs.declared.Session.{Session}
 use Rattle.session.specs.Steps.{
@@ -87,19 +89,11 @@ use Rattle.session.specs.Calls.{
   arrived,
 }
 use Rattle.session.specs.Bounds.{WritesAtMost, OctetBound, Progress}
-use Rattle.answers.proofs.Lengths.{
-  isOctet,
-  judged-most,
-  port-most,
-  pasv-most,
-  extended-passive-most,
-  answers-most,
-}
+use Rattle.session.proofs.Turns.{place-owed}
+use Rattle.answers.proofs.Lengths.{isOctet, judged-most, port-line, pasv-line, passive-line, head-answers}
 use Rattle.answers.specs.Table.{Sound}
 use Rattle.answers.proofs.Refusals.{Refusal, unknown, bad, over, accepted, sound-words, refusal-of}
 use Rattle.answers.proofs.Ports.{
-  either,
-  chosen,
   SmallCommand,
   passes,
   passive,
@@ -148,8 +142,8 @@ module _ (mapped : List ℕ) (size : length mapped ≡ 4) (octets : every isOcte
   command-line : length h < judged → (k : Command) → SmallCommand k → Line (commandEffect k)
   unfolding commandEffect givesText
   command-line less k passes = held-line less
-  command-line less k passive = record { most = pasv-most }
-  command-line less k (port p small) = record { most = port-most mapped p size octets small }
+  command-line less k passive = record { most = pasv-line }
+  command-line less k (port p small) = record { most = port-line mapped p size octets small }
   command-line less k (answered a) = nothing-line
   command-line less k auth = held-line less
 
@@ -176,15 +170,15 @@ module _ (mapped : List ℕ) (size : length mapped ≡ 4) (octets : every isOcte
 
   -- ---- a server line judged whole
 
-  passive-line : length h < judged → (r : PassiveReply) → SmallReply r → Line (passiveEffect r)
+  passive-reply-line : length h < judged → (r : PassiveReply) → SmallReply r → Line (passiveEffect r)
   unfolding passiveEffect givesText
-  passive-line less r (port p small) = record { most = extended-passive-most p small }
-  passive-line less r unreadable = held-line less
+  passive-reply-line less r (port p small) = record { most = passive-line p small }
+  passive-reply-line less r unreadable = held-line less
 
   kind-line : length h < judged → (k : Kind) (c : List ℕ) → Line (kindEffect k c)
   unfolding kindEffect
   kind-line less Kind.Plain c = held-line less
-  kind-line less Kind.TranslatedEpsv c = passive-line less (passiveReply c) (reply-small c)
+  kind-line less Kind.TranslatedEpsv c = passive-reply-line less (passiveReply c) (reply-small c)
   kind-line less (Kind.Own a) c = held-line less
   kind-line less Kind.Auth c = held-line less
 
@@ -206,7 +200,7 @@ module _ (mapped : List ℕ) (size : length mapped ≡ 4) (octets : every isOcte
   next-line : length h < judged → (u : Bool) (held : ℕ) → ServerLine (replyOctet u held)
   unfolding replyOctet givesText
   next-line less u held =
-      chosen ServerLine _ _ _ (λ e. record { together = omega (arith, ltb-true (held + 1) judged e) })
+      by-test ServerLine _ _ _ (λ e. record { together = omega (arith, ltb-true (held + 1) judged e) })
       (λ e. record { together = omega (arith, held-line less .most) })
 
   reply-line : length h < judged → (u : Bool) (o : Owes) (p : Place) (held : ℕ) (line : List ℕ) (b : Bool) → ServerLine (replyEffect u o p held line b)
@@ -221,10 +215,6 @@ module _ (mapped : List ℕ) (size : length mapped ≡ 4) (octets : every isOcte
 
 -- ---- own answers and the AUTH step
 
-queue-most : (kinds : List ℕ) (owed : ℕ) → length (queueOf kinds owed) ≤ owed
-unfolding queueOf
-queue-most kinds owed = rw length-map (take-most owed kinds)
-
 -- 48 for each kind owed, and the octets held
 settled-most : (s : State) (n : ℕ) → length (settledText s n) ≤ s .control .owed * 48 + s .control .server .held
 unfolding settledText answersText
@@ -233,28 +223,10 @@ settled-most s n =
     let held : List ℕ = take (s .control .server .held) (s .reply) in
     let answers : Short (s .control .owed * 48) (choose (blocked (s .control)) [] (headAnswers (owedFrom s n))) =
     either (Short _) _ _ _ (record { most = omega arith })
-    (record { most = omega (arith, answers-most (owedFrom s n), length-drop n queue, queue-most (s .kinds) (s .control .owed)) }) in
+    (record { most = omega (arith, head-answers (owedFrom s n), length-drop n queue, length-queue (s .kinds) (s .control .owed)) }) in
     let rest : Short (s .control .server .held) (choose (isAuthNext s n) held []) =
     either (Short _) _ _ _ (record { most = take-most (s .control .server .held) (s .reply) }) (record { most = omega arith }) in
     simp length-append (omega (arith, answers .most, rest .most))
-
--- ---- room in the queue
-
-after-any : (owed : ℕ) (o : Owes) → owed < mostOwed → owedThen owed o ≤ mostOwed
-unfolding owedThen
-after-any owed Owes.Nothing h = omega arith
-after-any owed (Owes.One k) h = omega arith
-
-pub owed-after : (address : List ℕ) (supported : Bool) (sw : Switches) (p : Place) (n : ℕ) (h : List ℕ) (b : Bool) (owed : ℕ)
-    → owed ≤ mostOwed → isQueueFull client (isPassing p) owed ≡ false
-    → owedThen owed (placeEffect address supported sw p n h b .owes) ≤ mostOwed
-unfolding isQueueFull placeEffect owedThen
-owed-after address supported sw Place.Holding n h b owed most e =
-    after-any owed (placeEffect address supported sw Place.Holding n h b .owes) (leb-false mostOwed owed e)
-owed-after address supported sw Place.Flowing n h b owed most e =
-    after-any owed (placeEffect address supported sw Place.Flowing n h b .owes) (leb-false mostOwed owed e)
-owed-after address supported sw Place.Passing n h b owed most e = most
-owed-after address supported sw Place.Ended n h b owed most e = most
 
 -- ---- what number 4 lets through
 
@@ -285,7 +257,7 @@ module _ (f : Fixed) (size : length (f .mapped) ≡ 4) (octets : every isOctet (
       let given : ClientLine (f .mapped) size octets h x e =
       place-line (f .mapped) size octets h x less (f .client) (f .supported) (s .control .switches) (d .place) (d .held) (eqb x lf) in
       let owed : owedThen (s .control .owed) (e .owes) ≤ mostOwed =
-      owed-after (f .client) (f .supported) (s .control .switches) (d .place) (d .held) h (eqb x lf) (s .control .owed) (sm .owed) notFull in
+      place-owed (f .client) (f .supported) (s .control .switches) (d .place) (d .held) h (eqb x lf) (s .control .owed) (sm .owed) notFull in
       record {
         toServer = given .line .most;
         toClient = omega (arith, settled-most (clientState s x e) 0, owed, sm .server);

@@ -7,7 +7,7 @@ use mathlib.Core.Option.{Option}
 use Prim.Native.Nat.{ℕ, zero, suc, _+_, _-_, _≤_, _<_}
 use native.Mathlib.Omega.{arith}
 use lib.Dec.{eqb, leb, lit≤}
-use lib.ListN.{length, take, getD, length-set, length-replicate, getD-replicate}
+use lib.ListN.{length, take, getD, length-replicate, getD-replicate}
 use borrow.Author.Tests.{ltb-true}
 use Rattle.rules.specs.Octets.{lf, every}
 use Rattle.rules.specs.Answers.{Side, client, server, sideOf, mostOwed, isQueueFull}
@@ -16,11 +16,10 @@ use Rattle.rules.specs.declared.Switches.{Switches}
 use Rattle.rules.specs.declared.Answer.{Answer}
 use Rattle.effects.specs.declared.Place.{Place}
 use Rattle.effects.specs.declared.Direction.{Direction}
-use Rattle.effects.specs.declared.Gives.{Gives}
 use Rattle.effects.specs.declared.Owes.{Owes}
 use Rattle.effects.specs.declared.ClientEffect.{ClientEffect}
 use Rattle.effects.specs.declared.ServerEffect.{ServerEffect}
-use Rattle.effects.specs.Kinds.{headOf}
+use Rattle.effects.specs.Kinds.{headOf, pushed}
 use Rattle.effects.specs.Effects.{
   judgedEffect,
   joinEffect,
@@ -32,11 +31,13 @@ use Rattle.effects.specs.Effects.{
   replyEffect,
   serverEffect,
 }
+use Rattle.octets.proofs.Choices.{either, by-test}
+use Rattle.queue.proofs.Listed.{Listed, listed-push, listed-leave}
 use Rattle.session.specs.declared.Fixed.{Fixed}
 use Rattle.session.specs.declared.Session.{Session}
 use Rattle.session.specs.Steps.{
   State,
-  stored,
+  owedThen,
   leaving,
   passesFromNow,
   isAuthNext,
@@ -66,6 +67,8 @@ use Rattle.session.specs.Calls.{
   freshSession,
 }
 use Rattle.session.specs.Bounds.{Shaped, WritesAtMost}
+use Rattle.session.proofs.Octets.{length-stored}
+use Rattle.session.proofs.Turns.{place-owed}
 use Rattle.answers.specs.Table.{
   Call,
   Result,
@@ -82,9 +85,7 @@ use Rattle.answers.specs.Table.{
   One,
 }
 use Rattle.answers.proofs.Lengths.{judged-most}
-use Rattle.answers.proofs.Ports.{either, chosen}
-use Rattle.answers.proofs.Queue.{Queue, queue-push, queue-leave}
-use Rattle.answers.proofs.Bounds.{Small, owed-after, octet-most}
+use Rattle.answers.proofs.Bounds.{Small, octet-most}
 use Rattle.answers.proofs.Refusals.{
   listed-each,
   each-listed,
@@ -118,7 +119,7 @@ place-sound : (address : List ℕ) (supported : Bool) (sw : Switches) (p : Place
 unfolding placeEffect judgedEffect joinEffect
 place-sound address supported sw Place.Holding n h true = record { direction = none-held _ }
 place-sound address supported sw Place.Holding n h false =
-    chosen ClientSound _ _ _ (λ e. record { direction = one-more n (ltb-true (n + 1) judged e) })
+    by-test ClientSound _ _ _ (λ e. record { direction = one-more n (ltb-true (n + 1) judged e) })
     (λ e. either ClientSound _ _ _ (record { direction = none-held _ }) (record { direction = none-held _ }))
 place-sound address supported sw Place.Flowing n h true = record { direction = none-held _ }
 place-sound address supported sw Place.Flowing n h false = record { direction = none-held _ }
@@ -129,7 +130,7 @@ reply-sound : (u : Bool) (o : Owes) (p : Place) (n : ℕ) (line : List ℕ) (b :
 unfolding replyEffect wholeLine flowingLine replyOctet
 reply-sound u o Place.Holding n line true = record { direction = none-held _ }
 reply-sound u o Place.Holding n line false =
-    chosen ServerSound _ _ _ (λ e. record { direction = one-more n (ltb-true (n + 1) judged e) }) (λ e. record { direction = none-held _ })
+    by-test ServerSound _ _ _ (λ e. record { direction = one-more n (ltb-true (n + 1) judged e) }) (λ e. record { direction = none-held _ })
 reply-sound u o Place.Flowing n line true = record { direction = none-held _ }
 reply-sound u o Place.Flowing n line false = record { direction = none-held _ }
 reply-sound u o Place.Passing n line b = record { direction = none-held _ }
@@ -141,20 +142,16 @@ passes-sound d Place.Flowing h = none-held _
 passes-sound d Place.Passing h = none-held _
 passes-sound d Place.Ended h = h
 
-length-stored : (line : List ℕ) (n x : ℕ) (g : Gives) → length (stored line n x g) ≡ length line
-unfolding stored
-length-stored line n x Gives.Held = length-set line n x
-length-stored line n x Gives.Nothing = refl
-length-stored line n x Gives.Octet = refl
-length-stored line n x Gives.HeldAndOctet = refl
-length-stored line n x Gives.Pasv = refl
-length-stored line n x (Gives.Port p) = refl
-length-stored line n x (Gives.ExtendedPassive p) = refl
-
 -- ---- an octet that 1 does not stop keeps the state sound
 
+-- where there is room for what an octet owes
+push-kept : {kinds : List ℕ} {owed : ℕ} → Listed kinds owed → (o : Owes) → owedThen owed o ≤ mostOwed → Listed (pushed kinds owed o) (owedThen owed o)
+unfolding pushed owedThen
+push-kept q Owes.Nothing h = q
+push-kept q (Owes.One k) h = listed-push q k (omega arith)
+
 pub record Kept (s : State) : Type 0 where
-  pub queue : Queue (s .kinds) (s .control .owed)
+  pub queue : Listed (s .kinds) (s .control .owed)
   pub client : SoundDirection (s .control .client)
   pub server : SoundDirection (s .control .server)
   pub command : length (s .command) ≡ judged - 1
@@ -165,7 +162,7 @@ unfolding settledState
 settled-kept s n h =
     let d : Direction = s .control .server in
     record {
-      queue = queue-leave (h .queue) (leaving s n);
+      queue = listed-leave (h .queue) (leaving s n);
       client = h .client;
       server = either SoundDirection (isAuthNext s n) (passesFromNow d (d .place)) d (passes-sound d (d .place) (h .server)) (h .server);
       command = h .command;
@@ -182,7 +179,7 @@ octet-kept f client s x h notFull =
     let e : ClientEffect = clientEffectIn f s x in
     settled-kept (clientState s x e) 0
     (record {
-      queue = queue-push (h .queue) (e .owes) (owed-after (f .client) (f .supported) sw (d .place) (d .held) l (eqb x lf) (s .control .owed) (h .queue .most) notFull);
+      queue = push-kept (h .queue) (e .owes) (place-owed (f .client) (f .supported) sw (d .place) (d .held) l (eqb x lf) (s .control .owed) (h .queue .most) notFull);
       client = place-sound (f .client) (f .supported) sw (d .place) (d .held) l (eqb x lf) .direction;
       server = h .server;
       command = length-stored (s .command) (d .held) x (e .gives) ∙ h .command;

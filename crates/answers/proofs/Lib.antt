@@ -7,5 +7,4 @@ pub mod Reached
 pub mod Taking
 pub mod Rows
 pub mod Table
-pub mod Queue
 pub mod Kept

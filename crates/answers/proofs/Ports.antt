@@ -1,6 +1,6 @@
 -- The ports that a client line and a 227 line are read with are at most 65,535.
-use mathlib.Core.Path.{_≡_, refl}
-use mathlib.Core.Bool.{Bool, true, false, _&&_}
+use mathlib.Core.Path.{_≡_}
+use mathlib.Core.Bool.{Bool, true, _&&_}
 use mathlib.Core.List.{List, [], _∷_, _++_}
 use mathlib.Core.Option.{Option, none, some, Option·map}
 use Prim.Native.Nat.{ℕ, zero, suc, _+_, _*_, _≤_}
@@ -8,7 +8,7 @@ use native.Mathlib.Omega.{arith}
 use lib.Dec.{leb}
 use lib.ListN.{length, getD, drop}
 use borrow.Author.Tests.{le-leb, leb-true}
-use Rattle.rules.specs.Octets.{choose, within, every, digit, value, number, front, after, parts}
+use Rattle.rules.specs.Octets.{within, every, digit, value, number, front, after, parts}
 use Rattle.rules.specs.Address.{both, octetNumber}
 use Rattle.rules.specs.Commands.{
   epsvArgument,
@@ -33,18 +33,10 @@ use Rattle.rules.specs.declared.EprtArgument.{EprtArgument}
 use Rattle.rules.specs.declared.AlgsArgument.{AlgsArgument}
 use Rattle.rules.specs.declared.Command.{Command}
 use Rattle.rules.specs.declared.PassiveReply.{PassiveReply}
-use Rattle.answers.proofs.Lengths.{and-left, and-right, every-append, isOctet}
-
--- what holds of both, or of each under its test, holds of the one chosen
-pub either : {A : Type 0} (P : A → Type 0) (b : Bool) (x y : A) → P x → P y → P (choose b x y)
-unfolding choose
-either P true x y p q = p
-either P false x y p q = q
-
-pub chosen : {A : Type 0} (P : A → Type 0) (b : Bool) (x y : A) → (b ≡ true → P x) → (b ≡ false → P y) → P (choose b x y)
-unfolding choose
-chosen P true x y p q = p refl
-chosen P false x y p q = q refl
+use Rattle.octets.proofs.Ranges.{and-both}
+use Rattle.octets.proofs.Runs.{every-append}
+use Rattle.octets.proofs.Choices.{either, by-test}
+use Rattle.answers.proofs.Lengths.{isOctet, octet-at}
 
 -- ---- numbers
 
@@ -58,9 +50,9 @@ unfolding number
 number-most digits lo hi xs =
     let size : Bool = within 1 digits (length xs) in
     let range : Bool = within lo hi (value xs) in
-    chosen (Most hi) (size && every digit xs && range) (some (value xs)) none
-    (λ e. let inside : range ≡ true = and-right (size && every digit xs) range e in
-    most (value xs) (leb-true (value xs) hi (and-right (leb lo (value xs)) (leb (value xs) hi) inside)))
+    by-test (Most hi) (size && every digit xs && range) (some (value xs)) none
+    (λ e. let inside : range ≡ true = and-both (size && every digit xs) range e .1 in
+    most (value xs) (leb-true (value xs) hi (and-both (leb lo (value xs)) (leb (value xs) hi) inside .1)))
     (λ e. nothing)
 
 -- ---- a client line
@@ -152,12 +144,6 @@ unfolding numbers afterComma
 numbers-octets zero t = number-octet (front digit t)
 numbers-octets (suc k) t =
     both-octets _ _ (number-octet (front digit t)) (either Octets _ _ _ (numbers-octets k (drop 1 (after digit t))) nothing)
-
-octet-at : (ns : List ℕ) (i : ℕ) → every isOctet ns ≡ true → getD ns i 0 ≤ 255
-unfolding every
-octet-at [] i e = omega arith
-octet-at (n ∷ ns) zero e = leb-true n 255 (and-left (isOctet n) (every isOctet ns) e)
-octet-at (n ∷ ns) (suc i) e = octet-at ns i (and-right (isOctet n) (every isOctet ns) e)
 
 pub data SmallReply : PassiveReply → Type 0 where
   port : (p : ℕ) → p ≤ 65535 → SmallReply (PassiveReply.Port p)

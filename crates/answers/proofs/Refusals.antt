@@ -1,6 +1,6 @@
 -- What refuses a call: 3, 4 and 6 as tests and in words.
 use mathlib.Core.Path.{_≡_, refl, sym, ap, _∙_}
-use mathlib.Core.Bool.{Bool, true, false, _&&_, not, true≢false}
+use mathlib.Core.Bool.{Bool, true, false, _&&_, true≢false}
 use mathlib.Core.List.{List, [], _∷_}
 use mathlib.Core.Logic.{_↔_, _≢_, inl, inr}
 use mathlib.Core.Option.{Option, none, some}
@@ -10,16 +10,17 @@ use lib.Dec.{leb}
 use lib.ListN.{take, getD}
 use borrow.Author.Tests.{leb-true, leb-false, le-leb, eqb-true, eq-eqb}
 use Rattle.rules.specs.Octets.{choose, every}
-use Rattle.rules.specs.Answers.{sideOf, mostOwed, soundHeld, soundRecord, refusal}
+use Rattle.rules.specs.Answers.{sideOf, mostOwed, soundHeld, soundRecord}
 use Rattle.rules.specs.Lines.{judged}
 use Rattle.rules.specs.declared.Answer.{Answer}
 use Rattle.effects.specs.declared.Place.{Place}
 use Rattle.effects.specs.declared.Direction.{Direction}
 use Rattle.effects.specs.Kinds.{isListed}
+use Rattle.octets.proofs.Ranges.{and-both}
 use Rattle.session.specs.declared.Session.{Session}
 use Rattle.session.specs.Calls.{isHolding, isEnded, soundDirection, sound, directionOf, refusalOf}
+use Rattle.session.proofs.Stops.{refusal-cases}
 use Rattle.answers.specs.Table.{Unknown, Known, SoundDirection, Sound, HasEnded}
-use Rattle.answers.proofs.Lengths.{and-left, and-right}
 
 -- ---- number 4 in words
 
@@ -47,8 +48,8 @@ pub listed-each : (n : ℕ) (l : List ℕ) → every isListed (take n l) ≡ tru
 unfolding every isListed
 listed-each zero l e i h = absurd (omega arith)
 listed-each (suc n) [] e i h = omega arith
-listed-each (suc n) (x ∷ l) e zero h = leb-true x 8 (and-left (isListed x) (every isListed (take n l)) e)
-listed-each (suc n) (x ∷ l) e (suc i) h = listed-each n l (and-right (isListed x) (every isListed (take n l)) e) i (omega arith)
+listed-each (suc n) (x ∷ l) e zero h = leb-true x 8 (and-both (isListed x) (every isListed (take n l)) e .0)
+listed-each (suc n) (x ∷ l) e (suc i) h = listed-each n l (and-both (isListed x) (every isListed (take n l)) e .1) i (omega arith)
 
 pub each-listed : (n : ℕ) (l : List ℕ) → ((i : ℕ) → i < n → getD l i 0 ≤ 8) → every isListed (take n l) ≡ true
 unfolding every isListed
@@ -67,15 +68,16 @@ sound-words s =
     let serverHeld : Bool = soundHeld (isHolding (c .server .place)) (c .server .held) in
     let first : Bool = s .live && leb (c .owed) mostOwed in (
       (λ e.
-          let held : first && listed && clientHeld ≡ true = and-left (first && listed && clientHeld) serverHeld e in
-          let kinds : first && listed ≡ true = and-left (first && listed) clientHeld held in
-          let start : first ≡ true = and-left first listed kinds in
+          let held = and-both (first && listed && clientHeld) serverHeld e in
+          let kinds = and-both (first && listed) clientHeld (held .0) in
+          let start = and-both first listed (kinds .0) in
+          let count = and-both (s .live) (leb (c .owed) mostOwed) (start .0) in
           record {
-            live = and-left (s .live) (leb (c .owed) mostOwed) start;
-            owed = leb-true (c .owed) mostOwed (and-right (s .live) (leb (c .owed) mostOwed) start);
-            listed = listed-each (c .owed) (s .kinds) (and-right first listed kinds);
-            client = clientWords .0 (and-right (first && listed) clientHeld held);
-            server = serverWords .0 (and-right (first && listed && clientHeld) serverHeld e);
+            live = count .0;
+            owed = leb-true (c .owed) mostOwed (count .1);
+            listed = listed-each (c .owed) (s .kinds) (start .1);
+            client = clientWords .0 (kinds .1);
+            server = serverWords .0 (held .1);
           }),
       (λ w. all-five (w .live) (le-leb (c .owed) mostOwed (w .owed)) (each-listed (c .owed) (s .kinds) (w .listed)) (clientWords .1 (w .client)) (serverWords .1 (w .server))),
     )
@@ -122,18 +124,10 @@ pub data Refusal (s : Session) (d : ℕ) : Option Answer → Type 0 where
   over : Known d → Sound s → HasEnded s d → Refusal s d (some Answer.DirectionEnded)
   accepted : Known d → Sound s → (HasEnded s d → ⊥) → Refusal s d none
 
-by-tests : (s : Session) (d : ℕ) (unknownTest soundTest endedTest : Bool) → leb 2 d ≡ unknownTest → sound s ≡ soundTest
-    → isEnded (directionOf (sideOf d) (s .control) .place) ≡ endedTest
-    → Refusal s d (choose unknownTest (some Answer.UnknownDirection) (choose (not soundTest) (some Answer.BadRecord) (choose endedTest (some Answer.DirectionEnded) none)))
-unfolding choose
-by-tests s d true soundTest endedTest p q r = unknown (unknown-words d .0 (leb-true 2 d p))
-by-tests s d false false endedTest p q r =
-    bad (known-words d .0 (leb-false 2 d p)) (λ w. true≢false (sym (sound-words s .1 w) ∙ q))
-by-tests s d false true true p q r =
-    over (known-words d .0 (leb-false 2 d p)) (sound-words s .0 q) (ended-words s d .0 r)
-by-tests s d false true false p q r =
-    accepted (known-words d .0 (leb-false 2 d p)) (sound-words s .0 q) (λ w. true≢false (sym (ended-words s d .1 w) ∙ r))
-
 pub refusal-of : (s : Session) (d : ℕ) → Refusal s d (refusalOf s d)
-unfolding refusalOf refusal
-refusal-of s d = by-tests s d (leb 2 d) (sound s) (isEnded (directionOf (sideOf d) (s .control) .place)) refl refl refl
+unfolding refusalOf
+refusal-of s d =
+    refusal-cases (Refusal s d) d (sound s) (isEnded (directionOf (sideOf d) (s .control) .place)) (λ p. unknown (unknown-words d .0 (leb-true 2 d p)))
+    (λ p q. bad (known-words d .0 (leb-false 2 d p)) (λ w. true≢false (sym (sound-words s .1 w) ∙ q)))
+    (λ p q r. over (known-words d .0 (leb-false 2 d p)) (sound-words s .0 q) (ended-words s d .0 r))
+    (λ p q r. accepted (known-words d .0 (leb-false 2 d p)) (sound-words s .0 q) (λ w. true≢false (sym (ended-words s d .1 w) ∙ r)))

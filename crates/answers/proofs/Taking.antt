@@ -4,19 +4,19 @@ use mathlib.Core.Bool.{Bool, true, false, true≢false}
 use mathlib.Core.List.{List, [], _∷_, _++_}
 use mathlib.Core.Logic.{_↔_, _≢_, _⊎_, inl, inr}
 use mathlib.Core.Option.{Option, none, some}
-use Prim.Native.Nat.{ℕ, zero, suc, _+_, _-_, _≤_, _<_}
+use Prim.Native.Nat.{ℕ, zero, suc, _-_, _≤_, _<_}
 use native.Mathlib.Nat.{sub-zero, sub-add-eq}
 use native.Mathlib.Omega.{arith}
 use lib.Dec.{leb, ltb}
 use lib.ListN.{length, take, getD, length-append}
 use borrow.Author.Tests.{leb-true, leb-false, lt-leb, ltb-true, ltb-false}
-use Rattle.rules.specs.Octets.{choose}
 use Rattle.rules.specs.Answers.{Side, client, sideOf, answerNumber, mostOwed, isQueueFull, fits, stop}
 use Rattle.rules.specs.declared.Answer.{Answer}
 use Rattle.effects.specs.declared.Place.{Place}
 use Rattle.session.specs.declared.Fixed.{Fixed}
 use Rattle.session.specs.Steps.{State, Step, octetStep}
-use Rattle.session.specs.Calls.{isPassing, stateOf, fixedOf, Took, tookNothing, andThen, unlessStopped, stopOf, takes}
+use Rattle.session.specs.Calls.{isPassing, stateOf, fixedOf, Took, tookNothing, andThen, stopOf, takes}
+use Rattle.session.proofs.Stops.{stop-cases, unless-stopped}
 use Rattle.answers.specs.Table.{Call, octetSteps, before, next, Full, Exceeds}
 
 -- ---- what stops an octet
@@ -53,10 +53,8 @@ some-none e = let z : _≡_ {A = ℕ} 0 1 = cc in omega arith
 
 pub stops : (full exceeds : Type 0) (a b : Bool) → (a ≡ true → full) → (a ≡ false → full → ⊥) → (b ≡ false → exceeds) → (b ≡ true → exceeds → ⊥)
     → Stops full exceeds (stop a b)
-unfolding stop choose
-stops full exceeds true b is isNot more less = isFull (is refl)
-stops full exceeds false true is isNot more less = goesOn (isNot refl) (less refl)
-stops full exceeds false false is isNot more less = noRoom (isNot refl) (more refl)
+stops full exceeds a b is isNot more less =
+    stop-cases (Stops full exceeds) a b (λ e. isFull (is e)) (λ e f. noRoom (isNot e) (more f)) (λ e f. goesOn (isNot e) (less f))
 
 module _ {full exceeds : Type 0} where
   pub stops-none : {o : Option Answer} → Stops full exceeds o → (o ≡ none) ↔ ((full → ⊥) × (exceeds → ⊥))
@@ -86,12 +84,6 @@ module _ {full exceeds : Type 0} where
   stops-not-done (goesOn n m) e = some-none (sym e)
 
 -- ---- the octets of an arrival
-
-unless-stopped : (P : Took → Type 0) (o : Option Answer) (s : State) (r : Took) → ((a : Answer) → o ≡ some a → P (tookNothing a s)) → (o ≡ none → P r)
-    → P (unlessStopped o s r)
-unfolding unlessStopped
-unless-stopped P none s r p q = q refl
-unless-stopped P (some a) s r p q = p a refl
 
 -- what stops octet k, after those before it
 abbrev pub stopAt : Fixed → Side → State → List ℕ → ℕ → ℕ → ℕ → Option Answer

@@ -1,14 +1,11 @@
 -- One call: refused, or it does the items that it adds to the history.
 use mathlib.Core.Path.{_≡_, refl, sym, ap, _∙_}
-use mathlib.Core.Bool.{Bool, true, false, not, true≢false}
+use mathlib.Core.Bool.{Bool, true, false, true≢false}
 use mathlib.Core.List.{List, [], _∷_, map}
-use mathlib.Core.Option.{none, some}
 use Prim.Native.Nat.{ℕ, suc, _+_, _-_}
 use native.Mathlib.Nat.{add-zero}
-use lib.Dec.{leb}
 use lib.ListN.{length, take}
-use Rattle.rules.specs.Octets.{choose}
-use Rattle.rules.specs.Answers.{Side, client, server, sideOf, refusal}
+use Rattle.rules.specs.Answers.{Side, client, server, sideOf}
 use Rattle.rules.specs.Edition.{LineRules}
 use Rattle.rules.specs.History.{Item, octet, end, textOf, takenFrom}
 use Rattle.rules.specs.ToClient.{Place as Reading, ClientState, ServerState}
@@ -39,28 +36,22 @@ use Rattle.session.specs.Calls.{
   endOutcome,
   ended as sessionEnded,
 }
+use Rattle.session.proofs.Stops.{refusal-cases, unless-stopped}
 use Rattle.history.specs.Gateway.{outcomeOf}
 use Rattle.history.proofs.Places.{Stands, holding, flowing, passing, ended, NoAuth, Agrees}
 use Rattle.history.proofs.Items.{Speaks}
-use Rattle.history.proofs.Steps.{Alike, Done, MaySpeak, unless-stopped, done-nothing, takes-does, end-does}
+use Rattle.history.proofs.Steps.{Alike, Done, MaySpeak, done-nothing, takes-does, end-does}
 use Rattle.history.proofs.Counts.{Counted, counted-more, taken-octets}
 
 -- ---- what is refused
 
-refused-by : (P : Outcome → Type 0) (r : Session) (o : Outcome) (unknown bad over : Bool)
-    → ((a : Answer) → isRefusal a ≡ true → P (refused a r)) → (over ≡ false → P o)
-    → P (unlessRefused (choose unknown (some Answer.UnknownDirection) (choose bad (some Answer.BadRecord) (choose over (some Answer.DirectionEnded) none))) r o)
-unfolding choose unlessRefused
-refused-by P r o true bad over p q = p Answer.UnknownDirection refl
-refused-by P r o false true over p q = p Answer.BadRecord refl
-refused-by P r o false false true p q = p Answer.DirectionEnded refl
-refused-by P r o false false false p q = q refl
-
 -- a call is refused by 3, 4 or 6, or its direction has not ended
 pub unless-refused : (P : Outcome → Type 0) (r : Session) (d : ℕ) (o : Outcome) → ((a : Answer) → isRefusal a ≡ true → P (refused a r))
     → (isEnded (directionOf (sideOf d) (r .control) .place) ≡ false → P o) → P (unlessRefused (refusalOf r d) r o)
-unfolding refusalOf refusal
-unless-refused P r d o p q = refused-by P r o (leb 2 d) (not (sound r)) (isEnded (directionOf (sideOf d) (r .control) .place)) p q
+unfolding refusalOf unlessRefused
+unless-refused P r d o p q =
+    refusal-cases (λ a. P (unlessRefused a r o)) d (sound r) (isEnded (directionOf (sideOf d) (r .control) .place)) (λ _. p Answer.UnknownDirection refl)
+    (λ _ _. p Answer.BadRecord refl) (λ _ _ _. p Answer.DirectionEnded refl) (λ _ _ e. q e)
 
 speaks : {p : Place} {n : ℕ} {line : List ℕ} {q : Reading} → Stands NoAuth p n line q → isEnded p ≡ false → Speaks q
 speaks (holding h) e = tt

@@ -52,7 +52,7 @@ use Rattle.session.specs.Calls.{
   endOutcome,
   ended as sessionEnded,
 }
-use Rattle.history.specs.Gateway.{Promise, outcomeOf, gateway}
+use Rattle.history.specs.Gateway.{outcomeOf, gateway}
 use Rattle.history.proofs.ByOctets.{reading-grows}
 use Rattle.history.proofs.Steps.{unless-stopped}
 use Rattle.history.proofs.Calls.{unless-refused, refused-items}

@@ -179,7 +179,7 @@ stays-sound : (f : Fixed) (r : Session) (c : ClientState) (v : ServerState) → 
 unfolding sound soundRecord soundDirection
 stays-sound f r c v s =
     let a = s .alike in
-    rw (s .live, le-leb (r .control .owed) mostOwed (a .queue .most), a .queue .listed, stands-sound (a .client), stands-sound (a .server))
+    rw (s .live, le-leb (r .control .owed) mostOwed (a .queue .array .most), a .queue .array .listed, stands-sound (a .client), stands-sound (a .server))
 
 pub records-sound : (su : Setup) (r z : Session) (l : List (Made gateway)) → Fresh su r → Calls gateway r l z → sound z ≡ true
 records-sound su r z l fresh calls =

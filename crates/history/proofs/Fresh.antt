@@ -4,7 +4,7 @@ use mathlib.Core.Bool.{Bool, true, false}
 use mathlib.Core.List.{List, _++_}
 use Prim.Native.Nat.{ℕ, _-_}
 use native.Mathlib.Omega.{arith}
-use lib.ListN.{length, drop, length-replicate}
+use lib.ListN.{drop, length-replicate}
 use Rattle.rules.specs.Octets.{lf, choose}
 use Rattle.rules.specs.Lines.{judged, content}
 use Rattle.rules.specs.Setup.{Setup, eprtSupported, setupSwitches, badFlags, setupAnswer}

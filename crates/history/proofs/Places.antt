@@ -5,14 +5,14 @@ use mathlib.Core.List.{List, [], _∷_, _++_}
 use Prim.Native.Nat.{ℕ, _+_, _-_, _≤_, _<_}
 use native.Mathlib.Omega.{arith}
 use native.Mathlib.Numerals.{add-one}
-use lib.Dec.{eqb, ltb, lit≤}
-use lib.ListN.{length, take, drop, set, getD, length-set}
-use lib.Seq.{take-suc-set, length-take-le, take-append-le, take-take, getD-take}
+use lib.Dec.{eqb, ltb}
+use lib.ListN.{length, take, drop, set, length-set}
+use lib.Seq.{take-suc-set, length-take-le, take-append-le, take-take}
 use borrow.Author.Tests.{eqb-true, ltb-true, ltb-false, eq-eqb, ne-eqb}
 use Rattle.rules.specs.Octets.{lf, choose}
 use Rattle.rules.specs.Lines.{judged, startsAuth, content}
 use Rattle.rules.specs.Commands.{command, commandOwes, commandSwitches}
-use Rattle.rules.specs.Replies.{isAuth, endsReply, replyLine, passiveReply}
+use Rattle.rules.specs.Replies.{isAuth, replyLine, passiveReply}
 use Rattle.rules.specs.Edition.{ClientLine, LineRules}
 use Rattle.rules.specs.ToServer.{finishedLine, longOwes}
 use Rattle.rules.specs.ToClient.{
@@ -40,6 +40,7 @@ use Rattle.rules.specs.declared.Kind.{Kind}
 use Rattle.rules.specs.declared.Command.{Command}
 use Rattle.rules.specs.declared.ReplyLine.{ReplyLine}
 use Rattle.rules.specs.declared.PassiveReply.{PassiveReply}
+use Rattle.replies.proofs.Flowing.{flowing as by-first-four}
 use Rattle.effects.specs.declared.Place.{Place}
 use Rattle.effects.specs.declared.Gives.{Gives}
 use Rattle.effects.specs.declared.Owes.{Owes}
@@ -75,7 +76,7 @@ use Rattle.history.proofs.ByOctets.{
   finished-whole,
   finished-long,
 }
-use Rattle.history.proofs.Queue.{owesList, firstOf, removes-drop, removes-least}
+use Rattle.history.proofs.Queue.{owesList, firstOf, removes-drop}
 
 -- ---- the relation
 
@@ -151,26 +152,8 @@ pub record Agrees (f : Fixed) (rules : LineRules) : Type 0 where
 
 -- ---- the reply that a flowing line belongs to is known by its first four octets
 
-reply-same : (c d : List ℕ) → 3 < length c → 3 < length d → ((i : ℕ) → i < 4 → getD c i 0 ≡ getD d i 0) → replyLine c ≡ replyLine d
-unfolding replyLine endsReply
-reply-same c d hc hd g =
-    rw (g 0 (lit≤ tt), g 1 (lit≤ tt), g 2 (lit≤ tt), g 3 (lit≤ tt), ne-eqb (length c) 3 (λ q. omega arith), ne-eqb (length d) 3 (λ q. omega arith))
-
-reply-shorter : (l : List ℕ) (n : ℕ) → 4 ≤ n → n ≤ length l → replyLine (take n l) ≡ replyLine l
-reply-shorter l n h k =
-    reply-same (take n l) l (omega (arith, length-take-le n l k)) (omega arith) (λ i g. getD-take n l i 0 (omega arith))
-
-reply-either : (l : List ℕ) → judged ≤ length l → (b : Bool) → replyLine (choose b (take (length l - 1) l) l) ≡ replyLine l
-unfolding choose
-reply-either l h true = reply-shorter l (length l - 1) (omega (arith, six)) (omega arith)
-reply-either l h false = refl
-
-reply-content : (l : List ℕ) → judged ≤ length l → replyLine (content l) ≡ replyLine l
-unfolding content
-reply-content l h = reply-either l h (eqb (getD l (length l - 1) 0) 13)
-
 reply-flowing : (line l : List ℕ) → judged ≤ length l → FirstFour line l → replyLine (take 4 line) ≡ replyLine (content l)
-reply-flowing line l h e = rw e (reply-shorter l 4 (lit≤ tt) (omega (arith, six)) ∙ sym (reply-content l h))
+reply-flowing line l h e = ap replyLine e ∙ sym (by-first-four l h)
 
 -- ---- one octet
 
@@ -186,7 +169,6 @@ module _ (f : Fixed) where
   pub record ServerFits (line : List ℕ) (n x : ℕ) (ks : List Kind) (e : ServerEffect) (t : ServerStep) : Type 0 where
     pub gives : givesText (f .mapped) (take n line) x (e .gives) ≡ t .gives
     pub owed : drop (e .removes) ks ≡ t .state .owed
-    pub least : e .removes ≤ length ks
     pub unfinished : e .unfinished ≡ t .state .unfinished
     pub full : Full (stored line n x (e .gives))
     pub place : Stands FirstFour (e .direction .place) (e .direction .held) (stored line n x (e .gives)) (t .state .place)
@@ -335,7 +317,6 @@ module _ (f : Fixed) (rules : LineRules) (agree : Agrees f rules) where
       (record {
         gives = line-gives l r u ks;
         owed = removes-drop r ks;
-        least = removes-least r ks;
         unfinished = refl;
         full = rw kept full;
         place = rw kept (begins line);
@@ -350,7 +331,6 @@ module _ (f : Fixed) (rules : LineRules) (agree : Agrees f rules) where
       (record {
         gives = refl;
         owed = refl;
-        least = omega arith;
         unfinished = refl;
         full = length-set line n x ∙ full;
         place = held-more line n x full (ltb-true (n + 1) judged p);
@@ -362,7 +342,7 @@ module _ (f : Fixed) (rules : LineRules) (agree : Agrees f rules) where
       take-append-le 4 (take n line) (x ∷ []) (omega (arith, six, length-take-le n line (omega arith)))
       ∙ take-take 4 n line (omega (arith, six)) in
       rw (p, long (joined line n x) more, eq-eqb (length (joined line n x)) judged (omega arith))
-      (record { gives = refl; owed = refl; least = omega arith; unfinished = refl; full = full; place = flowing more (sym four) })
+      (record { gives = refl; owed = refl; unfinished = refl; full = full; place = flowing more (sym four) })
 
   held-reply-fits : (line : List ℕ) (n x : ℕ) (u : Bool) (ks : List Kind) → Full line → n < judged → (b : Bool) → eqb x lf ≡ b
       → ServerFits f line n x ks (replyEffect u (firstOf ks) Place.Holding n line b) (choose b (serverLine rules ks u (take n line)) (lineOctet ks u (joined line n x) x))
@@ -378,7 +358,6 @@ module _ (f : Fixed) (rules : LineRules) (agree : Agrees f rules) where
       (record {
         gives = refl;
         owed = removes-drop (replyLine (content l)) ks;
-        least = removes-least (replyLine (content l)) ks;
         unfinished = refl;
         full = full;
         place = begins line;
@@ -389,7 +368,6 @@ module _ (f : Fixed) (rules : LineRules) (agree : Agrees f rules) where
       (record {
         gives = refl;
         owed = refl;
-        least = omega arith;
         unfinished = refl;
         full = full;
         place = flowing more (e ∙ sym (take-append-le 4 l (x ∷ []) (omega (arith, six))));
@@ -400,5 +378,5 @@ module _ (f : Fixed) (rules : LineRules) (agree : Agrees f rules) where
   unfolding serverOctet replyEffect givesText stored
   server-fits u ks (holding {n = n} {line = line} h) full x = held-reply-fits line n x u ks full h (eqb x lf) refl
   server-fits u ks (flowing {line = line} {l = l} k e) full x = flowing-reply-fits line l x u ks full k e (eqb x lf) refl
-  server-fits u ks passing full x = record { gives = refl; owed = refl; least = omega arith; unfinished = refl; full = full; place = passing }
-  server-fits u ks ended full x = record { gives = refl; owed = refl; least = omega arith; unfinished = refl; full = full; place = ended }
+  server-fits u ks passing full x = record { gives = refl; owed = refl; unfinished = refl; full = full; place = passing }
+  server-fits u ks ended full x = record { gives = refl; owed = refl; unfinished = refl; full = full; place = ended }

@@ -2,9 +2,8 @@
 use mathlib.Core.Path.{_≡_, refl, sym, ap, _∙_}
 use mathlib.Core.Bool.{Bool, true, false, _||_}
 use mathlib.Core.List.{List, [], _++_, append-nil, append-assoc}
-use Prim.Native.Nat.{ℕ, _-_, _≤_}
-use native.Mathlib.Omega.{arith}
-use lib.ListN.{length, drop, length-drop}
+use Prim.Native.Nat.{ℕ, _-_}
+use lib.ListN.{drop}
 use lib.Seq.{drop-drop}
 use Rattle.rules.specs.Octets.{choose}
 use Rattle.rules.specs.Replies.{headAnswers, withoutAnswers, authAtHead}
@@ -20,7 +19,7 @@ use Rattle.rules.specs.ToClient.{
 use Rattle.rules.specs.declared.Kind.{Kind}
 use Rattle.effects.specs.Kinds.{queueOf, answersAtHead, shifted}
 use Rattle.session.specs.Steps.{State, blocked, owedFrom, leaving, answersText, isAuthNext, settledState, settledText}
-use Rattle.history.proofs.Queue.{Queue, queue-length, queue-leave, answers-drop, answers-least}
+use Rattle.history.proofs.Queue.{Queue, queue-leave, answers-drop}
 use Rattle.history.proofs.Places.{Stands, FirstFour, Full, held-octets, flows-or-ended, passes-on}
 
 -- the record's side of an octet that removes n kinds and gives `given` to the client, settled as the reading's step t
@@ -32,20 +31,18 @@ pub record Settled (s : State) (n : ℕ) (given : List ℕ) (t : ServerStep) : T
 
 -- what stands in the queue after the kinds that leave, and what is written for them
 record Left (s : State) (n : ℕ) (ks : List Kind) (text : List ℕ) : Type 0 where
-  least : leaving s n ≤ s .control .owed
   owed : owedFrom s (leaving s n) ≡ ks
   answers : answersText s n ≡ text
 
-left : (s : State) (n : ℕ) (ks₀ ks : List Kind) → Queue (s .kinds) (s .control .owed) ks₀ → n ≤ length ks₀ → drop n ks₀ ≡ ks
+left : (s : State) (n : ℕ) (ks₀ ks : List Kind) → Queue (s .kinds) (s .control .owed) ks₀ → drop n ks₀ ≡ ks
     → (b : Bool) → blocked (s .control) ≡ b → Left s n (choose b ks (withoutAnswers ks)) (choose b [] (headAnswers ks))
 unfolding leaving answersText choose
-left s n ks₀ ks q h e true p =
+left s n ks₀ ks q e true p =
     let now : owedFrom s n ≡ ks = ap (λ (l : List Kind). drop n l) (q .same) ∙ e in
-    record { least = rw p (omega (arith, queue-length q)); owed = rw p now; answers = rw p }
-left s n ks₀ ks q h e false p =
+    record { owed = rw p now; answers = rw p }
+left s n ks₀ ks q e false p =
     let now : owedFrom s n ≡ ks = ap (λ (l : List Kind). drop n l) (q .same) ∙ e in
     record {
-      least = rw (p, now) (omega (arith, queue-length q, answers-least ks, ap length (sym e) ∙ length-drop n ks₀));
       owed = rw (p, now) (sym (drop-drop (answersAtHead ks) n (queueOf (s .kinds) (s .control .owed))) ∙ rw now (answers-drop ks));
       answers = rw (p, now);
     }
@@ -56,7 +53,7 @@ module _ (s : State) (n : ℕ) (given : List ℕ) {q : Reading} {ks₀ : List Ki
   left-queue : (ks : List Kind) (text : List ℕ) → Left s n ks text → Queue (shifted (s .kinds) (leaving s n) (s .control .owed)) (s .control .owed - leaving s n) ks
   left-queue ks text l =
       let now : drop (leaving s n) ks₀ ≡ ks = ap (λ (k : List Kind). drop (leaving s n) k) (sym (queue .same)) ∙ l .owed in
-      rw now at (queue-leave queue (leaving s n) (l .least))
+      rw now at (queue-leave queue (leaving s n))
 
   auth-settled : (ks : List Kind) (text : List ℕ) → Left s n ks text → (a : Bool) → authAtHead ks ≡ a
       → Settled s n given (authStep (serverStep q ks u (given ++ text)))
@@ -78,12 +75,12 @@ module _ (s : State) (n : ℕ) (given : List ℕ) {q : Reading} {ks₀ : List Ki
         unfinished = reply;
       })
 
-  answers-settled : (ks : List Kind) → n ≤ length ks₀ → drop n ks₀ ≡ ks → (b : Bool) → blocked (s .control) ≡ b
+  answers-settled : (ks : List Kind) → drop n ks₀ ≡ ks → (b : Bool) → blocked (s .control) ≡ b
       → Settled s n given (authStep (choose b (serverStep q ks u given) (serverStep q (withoutAnswers ks) u (given ++ headAnswers ks))))
   unfolding choose
-  answers-settled ks h e true p = rw append-nil at (auth-settled ks [] (left s n ks₀ ks queue h e true p) (authAtHead ks) refl)
-  answers-settled ks h e false p = auth-settled (withoutAnswers ks) (headAnswers ks) (left s n ks₀ ks queue h e false p) (authAtHead (withoutAnswers ks)) refl
+  answers-settled ks e true p = rw append-nil at (auth-settled ks [] (left s n ks₀ ks queue e true p) (authAtHead ks) refl)
+  answers-settled ks e false p = auth-settled (withoutAnswers ks) (headAnswers ks) (left s n ks₀ ks queue e false p) (authAtHead (withoutAnswers ks)) refl
 
-  pub settle : (ks : List Kind) → n ≤ length ks₀ → drop n ks₀ ≡ ks → Settled s n given (authStep (ownAnswers q ks u given))
+  pub settle : (ks : List Kind) → drop n ks₀ ≡ ks → Settled s n given (authStep (ownAnswers q ks u given))
   unfolding ownAnswers blocked
-  settle ks h e = answers-settled ks h e (u || readFlowsOrEnded q) (rw (reply, flows-or-ended stands full))
+  settle ks e = answers-settled ks e (u || readFlowsOrEnded q) (rw (reply, flows-or-ended stands full))

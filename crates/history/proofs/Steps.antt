@@ -1,15 +1,13 @@
 -- The session's octets, arrivals and ends do on the record what the readings do with the items of the history.
-use mathlib.Core.Path.{_≡_, refl, sym, ap, _∙_}
-use mathlib.Core.Bool.{Bool, true, false, true≢false}
+use mathlib.Core.Path.{_≡_, refl, sym, _∙_}
+use mathlib.Core.Bool.{Bool, false}
 use mathlib.Core.List.{List, [], _∷_, _++_, map, append-nil}
-use mathlib.Core.Option.{Option, none, some}
-use Prim.Native.Nat.{ℕ, _-_, _<_}
-use native.Mathlib.Omega.{arith}
+use Prim.Native.Nat.{ℕ, _-_, _≤_}
 use lib.Dec.{eqb}
+use native.Mathlib.Omega.{arith}
 use lib.ListN.{length, take, drop}
-use borrow.Author.Tests.{leb-false}
-use Rattle.rules.specs.Octets.{lf, choose}
-use Rattle.rules.specs.Answers.{Side, client, server, mostOwed, isQueueFull, fits, stop}
+use Rattle.rules.specs.Octets.{lf}
+use Rattle.rules.specs.Answers.{Side, client, server, mostOwed, isQueueFull, fits}
 use Rattle.rules.specs.Edition.{LineRules}
 use Rattle.rules.specs.History.{Item, octet, end}
 use Rattle.rules.specs.ToClient.{
@@ -25,18 +23,18 @@ use Rattle.rules.specs.ToClient.{
   ownAnswers,
   afterOctet,
 }
-use Rattle.rules.specs.declared.Answer.{Answer}
 use Rattle.rules.specs.declared.Switches.{Switches}
-use Rattle.effects.specs.declared.Place.{Place}
 use Rattle.effects.specs.declared.Direction.{Direction}
 use Rattle.effects.specs.declared.Owes.{Owes}
 use Rattle.effects.specs.declared.ClientEffect.{ClientEffect}
 use Rattle.effects.specs.declared.ServerEffect.{ServerEffect}
 use Rattle.effects.specs.Kinds.{headOf}
-use Rattle.effects.specs.Effects.{placeEffect, clientEffect, serverEffect}
+use Rattle.effects.specs.Effects.{clientEffect, serverEffect}
 use Rattle.session.specs.declared.Fixed.{Fixed}
-use Rattle.session.specs.Steps.{State, Step, settledState, clientState, clientEffectIn, clientStep, serverState, serverEffectIn, serverStep, octetStep}
-use Rattle.session.specs.Calls.{isPassing, Took, tookNothing, unlessStopped, stopOf, takes, endStep}
+use Rattle.session.specs.Steps.{State, Step, owedThen, settledState, clientState, clientEffectIn, clientStep, serverState, serverEffectIn, serverStep, octetStep}
+use Rattle.session.specs.Calls.{isPassing, Took, stopOf, takes, endStep}
+use Rattle.session.proofs.Stops.{stop-none, unless-stopped}
+use Rattle.session.proofs.Turns.{place-owed}
 use Rattle.history.specs.ByOctets.{clientGives}
 use Rattle.history.proofs.Queue.{Queue, RoomFor, queue-push, queue-first, firstOf}
 use Rattle.history.proofs.Places.{
@@ -77,45 +75,19 @@ pub record Alike (s : State) (c : ClientState) (v : ServerState) : Type 0 where
 
 -- ---- room in the queue
 
-room-any : (owed : ℕ) (o : Owes) → owed < mostOwed → RoomFor owed o
-room-any owed Owes.Nothing h = tt
-room-any owed (Owes.One k) h = h
-
-room-at : (address : List ℕ) (supported : Bool) (sw : Switches) (p : Place) (n : ℕ) (h : List ℕ) (b : Bool) (owed : ℕ)
-    → isQueueFull client (isPassing p) owed ≡ false → RoomFor owed (placeEffect address supported sw p n h b .owes)
-unfolding isQueueFull placeEffect
-room-at address supported sw Place.Holding n h b owed e =
-    room-any owed (placeEffect address supported sw Place.Holding n h b .owes) (leb-false mostOwed owed e)
-room-at address supported sw Place.Flowing n h b owed e =
-    room-any owed (placeEffect address supported sw Place.Flowing n h b .owes) (leb-false mostOwed owed e)
-room-at address supported sw Place.Passing n h b owed e = tt
-room-at address supported sw Place.Ended n h b owed e = tt
+room-for : (owed : ℕ) (o : Owes) → owedThen owed o ≤ mostOwed → RoomFor owed o
+unfolding owedThen
+room-for owed Owes.Nothing h = tt
+room-for owed (Owes.One k) h = omega arith
 
 -- a client octet that number 1 does not stop has room for what it owes
-room : (f : Fixed) (s : State) (x : ℕ) → isQueueFull client (isPassing (s .control .client .place)) (s .control .owed) ≡ false
+room : (f : Fixed) (s : State) (x : ℕ) → s .control .owed ≤ mostOwed → isQueueFull client (isPassing (s .control .client .place)) (s .control .owed) ≡ false
     → RoomFor (s .control .owed) (clientEffectIn f s x .owes)
 unfolding clientEffectIn clientEffect
-room f s x e =
+room f s x most e =
     let d : Direction = s .control .client in
-    room-at (f .client) (f .supported) (s .control .switches) (d .place) (d .held) (take (d .held) (s .command)) (eqb x lf) (s .control .owed) e
-
--- ---- what stops a call
-
-abbrev isNone : Option Answer → Bool
-isNone none = true
-isNone (some a) = false
-
--- where nothing stops the call, the queue has room
-not-full : (full fitting : Bool) → stop full fitting ≡ none → full ≡ false
-unfolding stop choose
-not-full true fitting e = absurd (true≢false (sym (ap isNone e)))
-not-full false fitting e = refl
-
-pub unless-stopped : (P : Took → Type 0) (o : Option Answer) (s : State) (r : Took) → ((a : Answer) → o ≡ some a → P (tookNothing a s)) → (o ≡ none → P r)
-    → P (unlessStopped o s r)
-unfolding unlessStopped
-unless-stopped P none s r p q = q refl
-unless-stopped P (some a) s r p q = p a refl
+    room-for (s .control .owed) (clientEffectIn f s x .owes)
+    (place-owed (f .client) (f .supported) (s .control .switches) (d .place) (d .held) (take (d .held) (s .command)) (eqb x lf) (s .control .owed) most e)
 
 -- the side that arrives has not ended
 abbrev pub MaySpeak : Side → ClientState → Type 0
@@ -185,9 +157,9 @@ module _ (f : Fixed) (rules : LineRules) (agree : Agrees f rules) where
       let j : ClientStep = clientOctet rules (c .switches) (c .place) x in
       let fit : ClientFits f (s .command) (s .control .client .held) x e (clientGives rules (c .switches) (c .place) x) j = client-effect s c v x a in
       let t : State = clientState s x e in
-      let queue : Queue (t .kinds) (t .control .owed) (v .owed ++ j .owes) = rw (fit .owes) at (queue-push (a .queue) (e .owes) (room f s x notFull)) in
+      let queue : Queue (t .kinds) (t .control .owed) (v .owed ++ j .owes) = rw (fit .owes) at (queue-push (a .queue) (e .owes) (room f s x (a .queue .array .most) notFull)) in
       let done : Settled t 0 [] (authStep (ownAnswers (v .place) (v .owed ++ j .owes) (v .unfinished) [])) =
-      settle t 0 [] (a .server) (a .reply) queue (a .unfinished) (v .owed ++ j .owes) (omega arith) refl in
+      settle t 0 [] (a .server) (a .reply) queue (a .unfinished) (v .owed ++ j .owes) refl in
       record {
         done = record {
           client = j .state;
@@ -216,7 +188,7 @@ module _ (f : Fixed) (rules : LineRules) (agree : Agrees f rules) where
       let t : State = serverState s x e in
       let owed : drop (e .removes) (v .owed) ≡ r .state .owed ++ [] = fit .owed ∙ sym (append-nil (r .state .owed)) in
       let done : Settled t (e .removes) (r .gives) (authStep (ownAnswers (r .state .place) (r .state .owed ++ []) (r .state .unfinished) (r .gives))) =
-      settle t (e .removes) (r .gives) (fit .place) (fit .full) (a .queue) (fit .unfinished) (r .state .owed ++ []) (fit .least) owed in
+      settle t (e .removes) (r .gives) (fit .place) (fit .full) (a .queue) (fit .unfinished) (r .state .owed ++ []) owed in
       record {
         done = record {
           client = c;
@@ -253,7 +225,7 @@ module _ (f : Fixed) (rules : LineRules) (agree : Agrees f rules) where
       let P : Took → Type 0 = λ r. Done rules c v (map (octet d) (take (r .taken) (x ∷ xs))) (r .toServer) (r .toClient) (r .state) in
       unless-stopped P (stopOf d s t rs rc) s _ (λ n e. done-nothing rules a)
       (λ e. let o : Octets rules c v (octet d x ∷ []) (t .toServer) (t .toClient) (t .state) =
-      octet-does d s c v x a m (not-full _ (fits (t .toServer) (t .toClient) rs rc) e) in
+      octet-does d s c v x a m (stop-none _ (fits (t .toServer) (t .toClient) rs rc) e .0) in
       done-then rules (octet d x ∷ []) _ (t .toServer) (t .toClient) _ _ (o .done)
       (takes-does d (t .state) (o .done .client) (o .done .server) xs (rs - length (t .toServer)) (rc - length (t .toClient)) (o .done .alike)
       (may-speak rules d c v _ _ _ _ o m)))

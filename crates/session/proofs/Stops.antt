@@ -16,13 +16,12 @@ module _ (P : Option Answer → Type 0) where
       → (leb 2 d ≡ false → sound ≡ false → P (some Answer.BadRecord))
       → (leb 2 d ≡ false → sound ≡ true → ended ≡ true → P (some Answer.DirectionEnded))
       → (leb 2 d ≡ false → sound ≡ true → ended ≡ false → P none) → P (refusal d sound ended)
-  unfolding refusal
+  unfolding refusal choose
   refusal-cases d sound ended three four six free = by-tests (leb 2 d) sound ended three four six free
     where
       by-tests : (t s e : Bool) → (t ≡ true → P (some Answer.UnknownDirection)) → (t ≡ false → s ≡ false → P (some Answer.BadRecord))
           → (t ≡ false → s ≡ true → e ≡ true → P (some Answer.DirectionEnded)) → (t ≡ false → s ≡ true → e ≡ false → P none)
           → P (choose t (some Answer.UnknownDirection) (choose (not s) (some Answer.BadRecord) (choose e (some Answer.DirectionEnded) none)))
-      unfolding choose
       by-tests true s e p q r u = p refl
       by-tests false false e p q r u = q refl refl
       by-tests false true true p q r u = r refl refl refl
@@ -39,7 +38,7 @@ module _ (P : Option Answer → Type 0) where
 -- where nothing stops the call, the queue has room and so have the buffers
 pub stop-none : (full room : Bool) → stop full room ≡ none → (full ≡ false) × (room ≡ true)
 stop-none full room =
-    stop-cases (λ o. o ≡ none → (full ≡ false) × (room ≡ true)) full room (λ a e. cc) (λ a b e. cc) (λ a b e. (a, b))
+    stop-cases (λ o. o ≡ none → (full ≡ false) × (room ≡ true)) full room (λ a e. (cc, cc)) (λ a b e. (a, cc)) (λ a b e. (a, b))
 
 -- what holds of nothing taken where something stops the call, and of r where nothing does
 pub unless-stopped : (P : Took → Type 0) (o : Option Answer) (s : State) (r : Took) → ((a : Answer) → o ≡ some a → P (tookNothing a s)) → (o ≡ none → P r)

@@ -1,13 +1,12 @@
 -- An octet's own effect: the counts that it leaves can be held, and what the functions that work it out return is what it is.
 use mathlib.Core.Path.{_≡_, refl, sym, ap, subst, _∙_}
-use mathlib.Core.Bool.{Bool, true, false, _&&_, not}
-use mathlib.Core.List.{List, [], _∷_, _++_}
-use Prim.Native.Nat.{ℕ, _+_, _-_, _<_, _≤_}
+use mathlib.Core.Bool.{Bool, true, false}
+use mathlib.Core.List.{List, []}
+use Prim.Native.Nat.{ℕ, _+_, _≤_}
 use native.Mathlib.Omega.{arith}
-use lib.Dec.{eqb, ltb, leb}
-use lib.ListN.{length, take, drop, getD}
+use lib.Dec.{eqb, ltb}
+use lib.ListN.{take, getD}
 use borrow.Author.Tests.{ltb-true, leb-false, eqb-false}
-use Rattle.rules.specs.Octets.{choose}
 use Rattle.rules.specs.Lines.{judged}
 use Rattle.rules.specs.Answers.{client, mostOwed, isQueueFull}
 use Rattle.rules.specs.declared.Kind.{Kind}
@@ -15,32 +14,15 @@ use Rattle.rules.specs.declared.Switches.{Switches}
 use Rattle.rules.specs.declared.ReplyLine.{ReplyLine}
 use Rattle.octets.proofs.Choices.{by-test}
 use Rattle.effects.specs.declared.Place.{Place}
-use Rattle.effects.specs.declared.Direction.{Direction}
 use Rattle.effects.specs.declared.Owes.{Owes}
-use Rattle.effects.specs.declared.Gives.{Gives}
 use Rattle.effects.specs.declared.ClientEffect.{ClientEffect}
 use Rattle.effects.specs.declared.ServerEffect.{ServerEffect}
 use Rattle.effects.specs.Kinds.{pushed, kindOf, headOf}
-use Rattle.effects.specs.Effects.{
-  at,
-  judgedEffect,
-  joinEffect,
-  placeEffect,
-  clientEffect,
-  kindRemoved,
-  headRemoved,
-  lineRemoves,
-  wholeLine,
-  flowingLine,
-  replyOctet,
-  replyEffect,
-  serverEffect,
-}
+use Rattle.effects.specs.Effects.{judgedEffect, joinEffect, placeEffect, clientEffect, kindRemoved, headRemoved, lineRemoves, wholeLine, flowingLine, replyOctet, replyEffect, serverEffect}
 use Rattle.session.specs.declared.Fixed.{Fixed}
 use Rattle.session.specs.declared.Control.{Control}
 use Rattle.session.specs.declared.settling.Plan.{Plan}
-use Rattle.session.specs.declared.octet.Turn.{Turn}
-use Rattle.session.specs.Steps.{State, leaving, answersText, isAuthNext, owedThen, stored, passesFromNow, settledState, settledText, clientEffectIn, clientState, serverEffectIn, serverState}
+use Rattle.session.specs.Steps.{State, owedThen, clientEffectIn, clientState, serverEffectIn, serverState}
 use Rattle.session.specs.Calls.{isPassing}
 use Rattle.session.specs.Core.{stateFrom, Planned, Counted, Turned, clientTurn, serverTurn}
 
@@ -67,13 +49,14 @@ unfolding owedThen
 owed-more n Owes.Nothing = omega arith
 owed-more n (Owes.One k) = omega arith
 
-place-owed : (a : List ℕ) (b : Bool) (sw : Switches) (p : Place) (n : ℕ) (h : List ℕ) (lf : Bool) (owed : ℕ) → owed ≤ 16
-    → isQueueFull client (isPassing p) owed ≡ false → owedThen owed (placeEffect a b sw p n h lf .owes) ≤ 16
-unfolding placeEffect isQueueFull mostOwed owedThen
+-- an octet that number 1 does not stop has room in the queue for what it owes
+pub place-owed : (a : List ℕ) (b : Bool) (sw : Switches) (p : Place) (n : ℕ) (h : List ℕ) (lf : Bool) (owed : ℕ) → owed ≤ mostOwed
+    → isQueueFull client (isPassing p) owed ≡ false → owedThen owed (placeEffect a b sw p n h lf .owes) ≤ mostOwed
+unfolding placeEffect isQueueFull owedThen
 place-owed a b sw Place.Holding n h lf owed most room =
-    omega (arith, leb-false 16 owed room, owed-more owed (placeEffect a b sw Place.Holding n h lf .owes))
+    omega (arith, leb-false mostOwed owed room, owed-more owed (placeEffect a b sw Place.Holding n h lf .owes))
 place-owed a b sw Place.Flowing n h lf owed most room =
-    omega (arith, leb-false 16 owed room, owed-more owed (placeEffect a b sw Place.Flowing n h lf .owes))
+    omega (arith, leb-false mostOwed owed room, owed-more owed (placeEffect a b sw Place.Flowing n h lf .owes))
 place-owed a b sw Place.Passing n h lf owed most room = most
 place-owed a b sw Place.Ended n h lf owed most room = most
 
@@ -88,7 +71,7 @@ module _ (f : Fixed) (c : Control) (kinds command : List ℕ) (x : ℕ) (e : Cli
       → p .answers ≤ 768
       → Turned (record { gives = e .gives; control = then; kinds = q; removes = 0; plan = p })
       (clientEffectIn f (stateFrom c command [] kinds) x .gives) (clientTurn f (stateFrom c command [] kinds) x) 0
-  unfolding clientTurn clientState clientEffectIn clientEffect
+  unfolding clientTurn clientState clientEffectIn clientEffect mostOwed
   client-turned counted room he hn hq planned answers =
       let E = clientEffect (f .client) (f .supported) (c .switches) (c .client) command x in
       let owed : n ≡ owedThen (c .owed) (E .owes) = hn ∙ ap (λ (a : ClientEffect). owedThen (c .owed) (a .owes)) he in
