@@ -52,9 +52,9 @@ use Rattle.session.specs.Calls.{
   endOutcome,
   ended as sessionEnded,
 }
+use Rattle.session.proofs.Stops.{stop-cases, unless-stopped}
 use Rattle.history.specs.Gateway.{outcomeOf, gateway}
 use Rattle.history.proofs.ByOctets.{reading-grows}
-use Rattle.history.proofs.Steps.{unless-stopped}
 use Rattle.history.proofs.Calls.{unless-refused, refused-items}
 use Rattle.history.proofs.Fresh.{fresh-there, only-fresh, returns}
 use Rattle.history.proofs.Demand3.{demand3}
@@ -84,10 +84,7 @@ refuses none = false
 refuses (some a) = isRefusal a
 
 stop-refuses : (full fitting : Bool) → refuses (stop full fitting) ≡ false
-unfolding stop choose
-stop-refuses true fitting = refl
-stop-refuses false true = refl
-stop-refuses false false = refl
+stop-refuses full fitting = stop-cases (λ o. refuses o ≡ false) full fitting (λ _. refl) (λ _ _. refl) (λ _ _. refl)
 
 not-refused : (full fitting : Bool) (a : Answer) → stop full fitting ≡ some a → isRefusal a ≡ false
 not-refused full fitting a e = ap refuses (sym e) ∙ stop-refuses full fitting

@@ -1,6 +1,6 @@
 -- Our session as a gateway of demand 3: its record, a fresh one, what its functions promise, and its offsets.
 use mathlib.Core.Path.{_≡_}
-use mathlib.Core.List.{_++_}
+use mathlib.Core.List.{List, _++_}
 use Prim.Native.Nat.{ℕ}
 use lib.ListN.{length, drop}
 use Rattle.rules.specs.Answers.{Side, client, server}
@@ -8,6 +8,7 @@ use Rattle.rules.specs.Setup.{Setup}
 use Rattle.rules.specs.Demand3.{Call, arrival, ending, Return, Gateway, lentServer, lentClient}
 use Rattle.rules.specs.declared.Answer.{Answer}
 use Rattle.session.specs.declared.Session.{Session}
+use Rattle.session.specs.declared.Called.{Called}
 use Rattle.session.specs.declared.DirectionOffset.{DirectionOffset}
 use Rattle.session.specs.Calls.{Outcome, prepared, arrived, ended as sessionEnded, offset as sessionOffset}
 
@@ -20,6 +21,19 @@ pub record Fresh (su : Setup) (r : Session) : Type 0 where
 unfoldable pub outcomeOf : Session → Call → Outcome
 outcomeOf r (arrival d octets s c) = arrived r d octets (length s) (length c)
 outcomeOf r (ending d s c) = sessionEnded r d (length s) (length c)
+
+-- what a call returned: the struct, and the buffers then
+abbrev pub returned : Called → List ℕ → List ℕ → Return Session
+returned r serverBuffer clientBuffer =
+    record {
+      answer = r .answer;
+      taken = r .taken;
+      toServer = r .written .server;
+      toClient = r .written .client;
+      session = r .session;
+      serverBuffer = serverBuffer;
+      clientBuffer = clientBuffer;
+    }
 
 -- what arrive and end promise: the struct they return, and each buffer with its old contents beyond what was written
 pub record Promise (r : Session) (c : Call) (t : Return Session) : Type 0 where
