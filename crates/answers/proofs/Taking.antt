@@ -9,14 +9,14 @@ use native.Mathlib.Nat.{sub-zero, sub-add-eq}
 use native.Mathlib.Omega.{arith}
 use lib.Dec.{leb, ltb}
 use lib.ListN.{length, take, getD, length-append}
-use borrow.Author.Tests.{leb-true, leb-false, lt-leb, ltb-true, ltb-false}
+use borrow.Author.Tests.{leb-true, leb-false, ltb-true, ltb-false}
 use Rattle.rules.specs.Answers.{Side, client, sideOf, answerNumber, mostOwed, isQueueFull, fits, stop}
 use Rattle.rules.specs.declared.Answer.{Answer}
 use Rattle.effects.specs.declared.Place.{Place}
 use Rattle.session.specs.declared.Fixed.{Fixed}
 use Rattle.session.specs.Steps.{State, Step, octetStep}
 use Rattle.session.specs.Calls.{isPassing, stateOf, fixedOf, Took, tookNothing, andThen, stopOf, takes}
-use Rattle.session.proofs.Stops.{stop-cases, unless-stopped}
+use Rattle.session.proofs.Stops.{fits-room, stop-cases, unless-stopped}
 use Rattle.answers.specs.Table.{Call, octetSteps, before, next, Full, Exceeds}
 
 -- ---- what stops an octet
@@ -30,13 +30,8 @@ no-room xs ys rs rc e = by-test (leb (length xs) rs) refl
     by-test false p = inl (leb-false (length xs) rs p)
 
 pub room : (xs ys : List ℕ) (rs rc : ℕ) → fits xs ys rs rc ≡ true → (rs < length xs) ⊎ (rc < length ys) → ⊥
-unfolding fits
-room xs ys rs rc e (inl h) = true≢false (sym e ∙ rw (lt-leb (length xs) rs h))
-room xs ys rs rc e (inr h) = by-test (leb (length xs) rs) refl
-  where
-    by-test : (b : Bool) → leb (length xs) rs ≡ b → ⊥
-    by-test true p = true≢false (sym (rw p at e) ∙ lt-leb (length ys) rc h)
-    by-test false p = true≢false (sym e ∙ rw p)
+room xs ys rs rc e (inl h) = omega (arith, fits-room xs ys rs rc e .0)
+room xs ys rs rc e (inr h) = omega (arith, fits-room xs ys rs rc e .1)
 
 -- "1 before 2"
 pub data Stops (full : Type 0) (exceeds : Type 0) : Option Answer → Type 0 where

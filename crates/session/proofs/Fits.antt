@@ -4,15 +4,12 @@ use mathlib.Core.Bool.{true}
 use mathlib.Core.List.{List, [], _∷_}
 use Prim.Native.Nat.{ℕ, _-_, _≤_}
 use native.Mathlib.Omega.{arith}
-use lib.Dec.{leb}
 use lib.ListN.{length, length-append}
-use borrow.Author.Tests.{leb-true}
 use Rattle.rules.specs.Answers.{Side, fits}
-use Rattle.octets.proofs.Ranges.{and-both}
 use Rattle.session.specs.declared.Fixed.{Fixed}
 use Rattle.session.specs.Steps.{State, Step, octetStep}
 use Rattle.session.specs.Calls.{Took, andThen, stopOf, takes}
-use Rattle.session.proofs.Stops.{stop-none, unless-stopped}
+use Rattle.session.proofs.Stops.{fits-room, stop-none, unless-stopped}
 
 -- the texts taken have room
 pub record Fit (t : Took) (serverRoom clientRoom : ℕ) : Type 0 where
@@ -20,11 +17,10 @@ pub record Fit (t : Took) (serverRoom clientRoom : ℕ) : Type 0 where
   pub client : length (t .toClient) ≤ clientRoom
 
 joined : (t : Step) (r : Took) (m n : ℕ) → fits (t .toServer) (t .toClient) m n ≡ true → Fit r (m - length (t .toServer)) (n - length (t .toClient)) → Fit (andThen t r) m n
-unfolding fits
 joined t r m n h f =
-    let b = and-both (leb (length (t .toServer)) m) (leb (length (t .toClient)) n) h in
-    let p = leb-true (length (t .toServer)) m (b .0) in
-    let q = leb-true (length (t .toClient)) n (b .1) in
+    let room = fits-room (t .toServer) (t .toClient) m n h in
+    let p = room .0 in
+    let q = room .1 in
     record {
       server = rw (length-append (t .toServer) (r .toServer)) (omega arith);
       client = rw (length-append (t .toClient) (r .toClient)) (omega arith);

@@ -2,11 +2,15 @@
 use mathlib.Core.Path.{_≡_, refl}
 use mathlib.Core.Bool.{Bool, true, false, not}
 use mathlib.Core.Option.{Option, none, some}
-use Prim.Native.Nat.{ℕ}
+use mathlib.Core.List.{List}
+use Prim.Native.Nat.{ℕ, _≤_}
 use lib.Dec.{leb}
+use lib.ListN.{length}
+use borrow.Author.Tests.{leb-true}
 use Rattle.rules.specs.Octets.{choose}
-use Rattle.rules.specs.Answers.{refusal, stop}
+use Rattle.rules.specs.Answers.{fits, refusal, stop}
 use Rattle.rules.specs.declared.Answer.{Answer}
+use Rattle.octets.proofs.Ranges.{and-both}
 use Rattle.session.specs.Steps.{State}
 use Rattle.session.specs.Calls.{Took, tookNothing, unlessStopped}
 
@@ -39,6 +43,13 @@ module _ (P : Option Answer → Type 0) where
 pub stop-none : (full room : Bool) → stop full room ≡ none → (full ≡ false) × (room ≡ true)
 stop-none full room =
     stop-cases (λ o. o ≡ none → (full ≡ false) × (room ≡ true)) full room (λ a e. (cc, cc)) (λ a b e. (a, cc)) (λ a b e. (a, b))
+
+-- texts that fit have room
+pub fits-room : (a b : List ℕ) (m n : ℕ) → fits a b m n ≡ true → (length a ≤ m) × (length b ≤ n)
+unfolding fits
+fits-room a b m n h =
+    let both = and-both (leb (length a) m) (leb (length b) n) h in
+    (leb-true (length a) m (both .0), leb-true (length b) n (both .1))
 
 -- what holds of nothing taken where something stops the call, and of r where nothing does
 pub unless-stopped : (P : Took → Type 0) (o : Option Answer) (s : State) (r : Took) → ((a : Answer) → o ≡ some a → P (tookNothing a s)) → (o ≡ none → P r)

@@ -1,6 +1,6 @@
 -- The octets of an arrival one by one: what is taken from the first state is what was taken so far and what is taken from the present one.
 use mathlib.Core.Path.{_≡_, refl, sym, ap, subst, _∙_}
-use mathlib.Core.Bool.{Bool, true, false, _&&_}
+use mathlib.Core.Bool.{Bool, true, false}
 use mathlib.Core.List.{List, [], _++_, append-assoc, append-nil}
 use Prim.Native.Nat.{ℕ, suc, _+_, _-_, _<_, _≤_}
 use native.Mathlib.Numerals.{add-one}
@@ -8,7 +8,6 @@ use native.Mathlib.Omega.{arith}
 use lib.Dec.{leb}
 use lib.ListN.{length, take, drop, getD, drop-of-length-le, take-append-drop}
 use lib.Seq.{length-take-le, drop-cons, drop-drop}
-use borrow.Author.Tests.{leb-true}
 use Rattle.rules.specs.Octets.{choose}
 use Rattle.rules.specs.Answers.{Side, client, server, mostOwed, isQueueFull, fits, stop}
 use Rattle.rules.specs.declared.Answer.{Answer}
@@ -19,6 +18,7 @@ use Rattle.session.specs.Steps.{State, Step, octetStep}
 use Rattle.session.specs.Calls.{Took, tookNothing, andThen, unlessStopped, stopOf, takes, isPassing}
 use Rattle.session.specs.Core.{Core, Bounded, sideIf, coreFrom, stepFits, octetFits, octetCore, coreTook}
 use Rattle.output.proofs.Placing.{placed-fits, length-placed, take-placed, drop-placed}
+use Rattle.session.proofs.Stops.{fits-room}
 use Rattle.session.proofs.Octets.{core-same, core-next}
 
 -- ---- the queue is full
@@ -122,18 +122,6 @@ placed-rest out from at t h rest =
     ∙ (ap (λ (n : ℕ). drop n out) same
     ∙ (sym (drop-drop (length t) at out) ∙ (ap (drop (length t)) rest ∙ drop-drop (length t) at from))))
 
-and-split : (p q : Bool) → p && q ≡ true → (p ≡ true) × (q ≡ true)
-and-split true q h = (refl, h)
-and-split false q h = let z : _≡_ {A = ℕ} 0 1 = cc in absurd (omega arith)
-
-room-for : (a b : List ℕ) (m n : ℕ) → fits a b m n ≡ true → (length a ≤ m) × (length b ≤ n)
-unfolding fits
-room-for a b m n h =
-    let both = and-split (leb (length a) m) (leb (length b) n) h in (
-      leb-true (length a) m (both .0),
-      leb-true (length b) n (both .1),
-    )
-
 module _ (f : Fixed) (d : Side) (l : List ℕ) (s₀ : State) (from to : List ℕ) where
   pub going-start : Bounded (s₀ .control) (record { server = 0; client = 0 }) from to
       → Going f d l s₀ from to (coreFrom s₀ from to (record { server = 0; client = 0 })) 0
@@ -192,7 +180,7 @@ module _ (f : Fixed) (d : Side) (l : List ℕ) (s₀ : State) (from to : List �
         going-on k′ fit after bounded =
             let t = octetStep f d (k .state) (getD l i 0) in
             let next = core-next f d (getD l i 0) k (sym fit) in
-            let room = room-for (t .toServer) (t .toClient) (length (k .serverBuffer) - w .server) (length (k .clientBuffer) - w .client) (sym fit) in
+            let room = fits-room (t .toServer) (t .toClient) (length (k .serverBuffer) - w .server) (length (k .clientBuffer) - w .client) (sym fit) in
             let more = takes-more f d (k .state) l i (length from - w .server) (length to - w .client) h open-queue (same-fits true fit) in
             let server = going .bounded .server in
             let client = going .bounded .client in
