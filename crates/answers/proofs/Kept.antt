@@ -16,10 +16,10 @@ use Rattle.rules.specs.declared.Switches.{Switches}
 use Rattle.rules.specs.declared.Answer.{Answer}
 use Rattle.effects.specs.declared.Place.{Place}
 use Rattle.effects.specs.declared.Direction.{Direction}
-use Rattle.effects.specs.declared.Owes.{Owes}
+use Rattle.kinds.specs.declared.Owes.{Owes}
 use Rattle.effects.specs.declared.ClientEffect.{ClientEffect}
 use Rattle.effects.specs.declared.ServerEffect.{ServerEffect}
-use Rattle.effects.specs.Kinds.{headOf, pushed}
+use Rattle.kinds.specs.Kinds.{headOf, pushed}
 use Rattle.effects.specs.Effects.{
   judgedEffect,
   joinEffect,

@@ -15,7 +15,7 @@ use Rattle.rules.specs.Lines.{judged}
 use Rattle.rules.specs.declared.Answer.{Answer}
 use Rattle.effects.specs.declared.Place.{Place}
 use Rattle.effects.specs.declared.Direction.{Direction}
-use Rattle.effects.specs.Kinds.{isListed}
+use Rattle.kinds.specs.Kinds.{isListed}
 use Rattle.octets.proofs.Ranges.{and-both}
 use Rattle.session.specs.declared.Session.{Session}
 use Rattle.session.specs.Calls.{isHolding, isEnded, soundDirection, sound, directionOf, refusalOf}

@@ -10,8 +10,8 @@ use Rattle.rules.specs.declared.Switches.{Switches}
 use Rattle.rules.specs.declared.Kind.{Kind}
 use Rattle.effects.specs.declared.Place.{Place}
 use Rattle.effects.specs.declared.Direction.{Direction}
-use Rattle.effects.specs.declared.Gives.{Gives}
-use Rattle.effects.specs.declared.Owes.{Owes}
+use Rattle.gives.specs.declared.Gives.{Gives}
+use Rattle.kinds.specs.declared.Owes.{Owes}
 use Rattle.effects.specs.Effects.{at, clientEffectOf, placeEffect, clientEffect, serverEffectOf, flowingLine, replyEffect, serverEffect}
 
 module _ (client : List ℕ) (supported : Bool) (sw : Switches) where

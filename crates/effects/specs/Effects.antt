@@ -6,8 +6,8 @@ use lib.Dec.{eqb, ltb}
 use lib.ListN.{take}
 use Rattle.rules.specs.Octets.{lf, choose}
 use Rattle.rules.specs.Lines.{judged, content, startsAuth}
-use Rattle.rules.specs.Commands.{command, commandOwes, commandSwitches, pasvLine, portLine}
-use Rattle.rules.specs.Replies.{replyLine, leavesUnfinished, passiveReply, extendedPassiveLine, isAuth}
+use Rattle.rules.specs.Commands.{command, commandOwes, commandSwitches}
+use Rattle.rules.specs.Replies.{replyLine, leavesUnfinished, passiveReply, isAuth}
 use Rattle.rules.specs.declared.Switches.{Switches}
 use Rattle.rules.specs.declared.Kind.{Kind}
 use Rattle.rules.specs.declared.Command.{Command}
@@ -15,20 +15,10 @@ use Rattle.rules.specs.declared.ReplyLine.{ReplyLine}
 use Rattle.rules.specs.declared.PassiveReply.{PassiveReply}
 use Rattle.effects.specs.declared.Place.{Place}
 use Rattle.effects.specs.declared.Direction.{Direction}
-use Rattle.effects.specs.declared.Gives.{Gives}
-use Rattle.effects.specs.declared.Owes.{Owes}
+use Rattle.gives.specs.declared.Gives.{Gives}
+use Rattle.kinds.specs.declared.Owes.{Owes}
 use Rattle.effects.specs.declared.ClientEffect.{ClientEffect}
 use Rattle.effects.specs.declared.ServerEffect.{ServerEffect}
-
--- the octets that are given: h are the held ones, x the octet
-unfoldable pub givesText : List ℕ → List ℕ → ℕ → Gives → List ℕ
-givesText mapped h x Gives.Held = []
-givesText mapped h x Gives.Nothing = []
-givesText mapped h x Gives.Octet = x ∷ []
-givesText mapped h x Gives.HeldAndOctet = h ++ (x ∷ [])
-givesText mapped h x Gives.Pasv = pasvLine
-givesText mapped h x (Gives.Port p) = portLine mapped p
-givesText mapped h x (Gives.ExtendedPassive p) = extendedPassiveLine p
 
 abbrev pub at : Place → ℕ → Direction
 at p n = record { place = p; held = n }
@@ -141,5 +131,5 @@ serverEffect u o d line x = replyEffect u o (d .place) (d .held) line (eqb x lf)
 
 -- this page's definitions, for a proof that computes with them
 unfoldable pub effects-opened : Unit {0}
-unfolding givesText commandEffect judgedEffect joinEffect placeEffect clientEffect kindRemoved headRemoved lineRemoves passiveEffect kindEffect headEffect lineGives wholeLine flowingLine replyOctet replyEffect serverEffect
+unfolding commandEffect judgedEffect joinEffect placeEffect clientEffect kindRemoved headRemoved lineRemoves passiveEffect kindEffect headEffect lineGives wholeLine flowingLine replyOctet replyEffect serverEffect
 effects-opened = tt

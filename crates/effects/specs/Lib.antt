@@ -1,3 +1,2 @@
--- The owed kinds as numbers, and what one octet does on its own side.
-pub mod Kinds
+-- What one octet does on its own side.
 pub mod Effects

@@ -1,7 +1,6 @@
 // What one octet does on its own side: what it gives, where its direction stands then, and what is owed or removed for it.
 ghost use mathlib.Core.Path.{_≡_};
 ghost use mathlib.Core.Bool.{true};
-ghost use mathlib.Core.List.{_++_, _∷_, []};
 ghost use Prim.Native.Nat.{_+_, _<_};
 ghost use lib.Dec.{ltb, eqb};
 ghost use lib.ListN.{length, take};
@@ -9,10 +8,10 @@ ghost use Rattle.rules.specs.Octets.{lf, choose};
 ghost use Rattle.rules.specs.Lines.{judged};
 ghost use Rattle.rules.specs.Commands.{commandOwes, answerSwitches, commandSwitches};
 ghost use Rattle.rules.specs.Replies.{passiveReply, leavesUnfinished, isAuth};
-ghost use Rattle.output.specs.Buffer.{placed, placeAfter};
-ghost use Rattle.effects.specs.Kinds.{answerCode, codeOf, stateKind, kindOf};
-ghost use Rattle.effects.specs.Effects.{at as directionAt, clientEffectOf, givesText, commandEffect, judgedEffect, joinEffect, placeEffect, clientEffect};
+ghost use Rattle.effects.specs.Effects.{at as directionAt, clientEffectOf, commandEffect, judgedEffect, joinEffect, placeEffect, clientEffect};
 ghost use Rattle.effects.specs.Effects.{kindRemoved, headRemoved, lineRemoves, passiveEffect, kindEffect, headEffect, lineGives, wholeLine, flowingLine, replyOctet, replyEffect, serverEffect, serverEffectOf};
+use gives::Gives;
+use kinds::Owes;
 use rules::Command;
 use rules::Kind;
 use rules::OwnAnswer;
@@ -39,23 +38,6 @@ pub struct Direction {
     pub held: usize,
 }
 
-// What an octet gives: nothing since it is held; nothing; itself; the held octets and itself; or a line of the gateway's.
-pub enum Gives {
-    Held,
-    Nothing,
-    Octet,
-    HeldAndOctet,
-    Pasv,
-    Port(u16),
-    ExtendedPassive(u16),
-}
-
-// A kind owed, or none.
-pub enum Owes {
-    Nothing,
-    One(Kind),
-}
-
 // What a client octet does on the client's side.
 pub struct ClientEffect {
     pub gives: Gives,
@@ -70,57 +52,6 @@ pub struct ServerEffect {
     pub direction: Direction,
     pub removes: usize,
     pub unfinished: bool,
-}
-
-// The number of a kind in the record.
-pub fn code_of(kind: Kind) -> u8
-    ensures { λ r. ⌜ r ≡ codeOf kind ⌝ }
-{
-    match kind {
-        Kind::Plain => 0,
-        Kind::TranslatedEpsv => 1,
-        Kind::Own(answer) => answer_code(answer),
-        Kind::Auth => 8,
-    }
-}
-
-fn answer_code(answer: OwnAnswer) -> u8
-    ensures { λ r. ⌜ r ≡ answerCode answer ⌝ }
-{
-    match answer {
-        OwnAnswer::ProtocolNotSupported => 2,
-        OwnAnswer::ParameterNotImplemented => 3,
-        OwnAnswer::State(switches) => {
-            if switches.epsv {
-                if switches.eprt { 7 } else { 5 }
-            } else {
-                if switches.eprt { 6 } else { 4 }
-            }
-        }
-    }
-}
-
-// The kind of a number; one that is not listed counts as plain.
-pub fn kind_of(code: u8) -> Kind
-    ensures { λ r. ⌜ r ≡ kindOf code ⌝ }
-{
-    match code {
-        1 => Kind::TranslatedEpsv,
-        2 => Kind::Own(OwnAnswer::ProtocolNotSupported),
-        3 => Kind::Own(OwnAnswer::ParameterNotImplemented),
-        4 => state_kind(false, false),
-        5 => state_kind(true, false),
-        6 => state_kind(false, true),
-        7 => state_kind(true, true),
-        8 => Kind::Auth,
-        _ => Kind::Plain,
-    }
-}
-
-fn state_kind(epsv: bool, eprt: bool) -> Kind
-    ensures { λ r. ⌜ r ≡ stateKind epsv eprt ⌝ }
-{
-    Kind::Own(OwnAnswer::State(Switches { epsv, eprt }))
 }
 
 // The first n octets of a line, or the whole line where it has fewer.
@@ -491,65 +422,4 @@ pub fn server_effect(
         Place::Passing => unremoved(Gives::Octet, Place::Passing, 0, unfinished),
         Place::Ended => unremoved(Gives::Nothing, Place::Ended, 0, unfinished),
     }
-}
-
-// How many octets are given.
-pub fn gives_length(gives: Gives, mapped: [u8; 4], held: &[u8], x: u8) -> usize
-    ensures { λ r. ⌜ r ≡ length (givesText mapped (now (held .entry)) x gives) ⌝ }
-{
-    match gives {
-        Gives::Held => 0,
-        Gives::Nothing => 0,
-        Gives::Octet => 1,
-        Gives::HeldAndOctet => held.len() + 1,
-        Gives::Pasv => output::pasv_length(),
-        Gives::Port(port) => output::port_line_length(mapped, port),
-        Gives::ExtendedPassive(port) => output::extended_passive_length(port),
-    }
-}
-
-// The octets given are put into a buffer; where they do not fit, nothing is.
-pub fn put_gives(
-    out: &mut [u8],
-    at: usize,
-    gives: Gives,
-    mapped: [u8; 4],
-    held: &[u8],
-    x: u8,
-) -> usize
-    ensures { λ r. ⌜ r ≡ placeAfter (now (out .entry)) at (givesText mapped (now (held .entry)) x gives) ⌝ }
-    ensures { λ r. ⌜ now (out .exit) ≡ placed (now (out .entry)) at (givesText mapped (now (held .entry)) x gives) ⌝ }
-{
-    match gives {
-        Gives::Held => at,
-        Gives::Nothing => at,
-        Gives::Octet => put_octet(out, at, x),
-        Gives::HeldAndOctet => put_line(out, at, held, x),
-        Gives::Pasv => output::put_pasv(out, at),
-        Gives::Port(port) => output::put_port_line(out, at, mapped, port),
-        Gives::ExtendedPassive(port) => output::put_extended_passive(out, at, port),
-    }
-}
-
-// One octet as a slice of its own.
-fn put_octet(out: &mut [u8], at: usize, x: u8) -> usize
-    ensures { λ r. ⌜ r ≡ placeAfter (now (out .entry)) at (x ∷ []) ⌝ }
-    ensures { λ r. ⌜ now (out .exit) ≡ placed (now (out .entry)) at (x ∷ []) ⌝ }
-{
-    output::put(out, at, &[x])
-}
-
-// The held octets and one more, where all have room.
-fn put_line(out: &mut [u8], at: usize, held: &[u8], x: u8) -> usize
-    ensures { λ r. ⌜ r ≡ placeAfter (now (out .entry)) at (now (held .entry) ++ (x ∷ [])) ⌝ }
-    ensures { λ r. ⌜ now (out .exit) ≡ placed (now (out .entry)) at (now (held .entry) ++ (x ∷ [])) ⌝ }
-{
-    if out.len() < at {
-        return at;
-    }
-    if out.len() - at <= held.len() {
-        return at;
-    }
-    let next = output::put(out, at, held);
-    put_octet(out, next, x)
 }

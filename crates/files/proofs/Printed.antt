@@ -8,7 +8,8 @@ use Rattle.rules.specs.Address.{address-opened}
 use Rattle.rules.specs.Commands.{commands-opened}
 use Rattle.rules.specs.Replies.{replies-opened}
 use Rattle.rules.specs.Exchanges.{exchanges-opened}
-use Rattle.effects.specs.Kinds.{kinds-opened}
+use Rattle.kinds.specs.Kinds.{kinds-opened}
+use Rattle.gives.specs.Text.{gives-opened}
 use Rattle.effects.specs.Effects.{effects-opened}
 use Rattle.session.specs.Steps.{steps-opened}
 use Rattle.session.specs.Calls.{calls-opened}
@@ -17,5 +18,5 @@ use Rattle.files.specs.Report.{report, report-opened}
 use Rattle.files.specs.Printed.{printedFile, printedReport, printed-opened}
 
 pub printed : report printedFile ≡ printedReport
-unfolding octets-opened answers-opened setup-opened lines-opened address-opened commands-opened replies-opened exchanges-opened kinds-opened effects-opened steps-opened calls-opened table-opened report-opened printed-opened
+unfolding octets-opened answers-opened setup-opened lines-opened address-opened commands-opened replies-opened exchanges-opened kinds-opened gives-opened effects-opened steps-opened calls-opened table-opened report-opened printed-opened
 printed = refl

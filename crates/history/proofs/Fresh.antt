@@ -19,7 +19,8 @@ use Rattle.rules.specs.declared.Command.{Command}
 use Rattle.rules.specs.declared.Kind.{Kind}
 use Rattle.rules.specs.declared.PassiveReply.{PassiveReply}
 use Rattle.session.specs.declared.Session.{Session}
-use Rattle.effects.specs.Effects.{givesText, commandEffect, kindEffect, passiveEffect}
+use Rattle.gives.specs.Text.{givesText}
+use Rattle.effects.specs.Effects.{commandEffect, kindEffect, passiveEffect}
 use Rattle.session.specs.declared.Fixed.{Fixed}
 use Rattle.session.specs.Calls.{Outcome, prepared, freshSession}
 use Rattle.history.specs.Gateway.{Fresh, Promise, outcomeOf}

@@ -42,12 +42,12 @@ use Rattle.rules.specs.declared.ReplyLine.{ReplyLine}
 use Rattle.rules.specs.declared.PassiveReply.{PassiveReply}
 use Rattle.replies.proofs.Flowing.{flowing as by-first-four}
 use Rattle.effects.specs.declared.Place.{Place}
-use Rattle.effects.specs.declared.Gives.{Gives}
-use Rattle.effects.specs.declared.Owes.{Owes}
+use Rattle.gives.specs.declared.Gives.{Gives}
+use Rattle.kinds.specs.declared.Owes.{Owes}
 use Rattle.effects.specs.declared.ClientEffect.{ClientEffect}
 use Rattle.effects.specs.declared.ServerEffect.{ServerEffect}
+use Rattle.gives.specs.Text.{givesText}
 use Rattle.effects.specs.Effects.{
-  givesText,
   at,
   commandEffect,
   judgedEffect,

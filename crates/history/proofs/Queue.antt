@@ -12,8 +12,8 @@ use Rattle.rules.specs.Replies.{removed, owedAfter, withoutAnswers}
 use Rattle.rules.specs.declared.OwnAnswer.{OwnAnswer}
 use Rattle.rules.specs.declared.Kind.{Kind}
 use Rattle.rules.specs.declared.ReplyLine.{ReplyLine}
-use Rattle.effects.specs.declared.Owes.{Owes}
-use Rattle.effects.specs.Kinds.{
+use Rattle.kinds.specs.declared.Owes.{Owes}
+use Rattle.kinds.specs.Kinds.{
   pushed,
   stateCode,
   answerCode,

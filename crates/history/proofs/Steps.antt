@@ -25,10 +25,10 @@ use Rattle.rules.specs.ToClient.{
 }
 use Rattle.rules.specs.declared.Switches.{Switches}
 use Rattle.effects.specs.declared.Direction.{Direction}
-use Rattle.effects.specs.declared.Owes.{Owes}
+use Rattle.kinds.specs.declared.Owes.{Owes}
 use Rattle.effects.specs.declared.ClientEffect.{ClientEffect}
 use Rattle.effects.specs.declared.ServerEffect.{ServerEffect}
-use Rattle.effects.specs.Kinds.{headOf}
+use Rattle.kinds.specs.Kinds.{headOf}
 use Rattle.effects.specs.Effects.{clientEffect, serverEffect}
 use Rattle.session.specs.declared.Fixed.{Fixed}
 use Rattle.session.specs.Steps.{State, Step, owedThen, settledState, clientState, clientEffectIn, clientStep, serverState, serverEffectIn, serverStep, octetStep}

@@ -4,15 +4,15 @@ ghost use Prim.Native.Nat.{_+_, _≤_};
 ghost use lib.ListN.{length, drop};
 ghost use Rattle.rules.specs.Replies.{headAnswers};
 ghost use Rattle.output.specs.Buffer.{placed, placeAfter};
-ghost use Rattle.effects.specs.Kinds.{queueOf, headOf, answersAtHead, pushed};
+ghost use Rattle.kinds.specs.Kinds.{queueOf, headOf, answersAtHead, pushed};
 ghost use Rattle.queue.specs.Heads.{answerFirst};
-use effects::Owes;
-use effects::code_of;
-use effects::kind_of;
-use output::answer_length;
-use output::put_answer;
+use kinds::Owes;
+use kinds::code_of;
+use kinds::kind_of;
 use rules::Kind;
 use rules::OwnAnswer;
+use writers::answer_length;
+use writers::put_answer;
 
 // How far the own answers at the head of a queue reach, and how many octets they have in all.
 pub struct AnswersDue {

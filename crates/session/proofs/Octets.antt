@@ -13,8 +13,9 @@ use Rattle.rules.specs.Answers.{Side, client, server, fits}
 use Rattle.output.specs.Buffer.{placed, placeAfter}
 use Rattle.effects.specs.declared.Place.{Place}
 use Rattle.effects.specs.declared.Direction.{Direction}
-use Rattle.effects.specs.declared.Gives.{Gives}
-use Rattle.effects.specs.Effects.{at, givesText}
+use Rattle.gives.specs.declared.Gives.{Gives}
+use Rattle.gives.specs.Text.{givesText}
+use Rattle.effects.specs.Effects.{at}
 use Rattle.session.specs.declared.Fixed.{Fixed}
 use Rattle.session.specs.declared.Control.{Control}
 use Rattle.session.specs.declared.Written.{Written}

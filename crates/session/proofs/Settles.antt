@@ -12,7 +12,7 @@ use Rattle.output.proofs.Placing.{Wrote, after-fits, joined, written}
 use Rattle.octets.proofs.Choices.{choose-true, choose-false, either}
 use Rattle.effects.specs.declared.Place.{Place}
 use Rattle.effects.specs.declared.Direction.{Direction}
-use Rattle.effects.specs.Kinds.{queueOf, answersAtHead, shifted}
+use Rattle.kinds.specs.Kinds.{queueOf, answersAtHead, shifted}
 use Rattle.queue.proofs.Answers.{length-queue, answers-most}
 use Rattle.session.specs.declared.Control.{Control}
 use Rattle.session.specs.declared.settling.Plan.{Plan}

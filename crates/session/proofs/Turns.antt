@@ -14,10 +14,10 @@ use Rattle.rules.specs.declared.Switches.{Switches}
 use Rattle.rules.specs.declared.ReplyLine.{ReplyLine}
 use Rattle.octets.proofs.Choices.{by-test}
 use Rattle.effects.specs.declared.Place.{Place}
-use Rattle.effects.specs.declared.Owes.{Owes}
+use Rattle.kinds.specs.declared.Owes.{Owes}
 use Rattle.effects.specs.declared.ClientEffect.{ClientEffect}
 use Rattle.effects.specs.declared.ServerEffect.{ServerEffect}
-use Rattle.effects.specs.Kinds.{pushed, kindOf, headOf}
+use Rattle.kinds.specs.Kinds.{pushed, kindOf, headOf}
 use Rattle.effects.specs.Effects.{judgedEffect, joinEffect, placeEffect, clientEffect, kindRemoved, headRemoved, lineRemoves, wholeLine, flowingLine, replyOctet, replyEffect, serverEffect}
 use Rattle.session.specs.declared.Fixed.{Fixed}
 use Rattle.session.specs.declared.Control.{Control}

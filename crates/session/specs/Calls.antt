@@ -33,7 +33,7 @@ use Rattle.session.specs.declared.Session.{Session}
 use Rattle.session.specs.declared.Prepared.{Prepared}
 use Rattle.session.specs.declared.Called.{Called}
 use Rattle.session.specs.declared.DirectionOffset.{DirectionOffset}
-use Rattle.effects.specs.Kinds.{isListed}
+use Rattle.kinds.specs.Kinds.{isListed}
 use Rattle.effects.specs.Effects.{at}
 use Rattle.session.specs.Steps.{State, Step, octetStep}
 

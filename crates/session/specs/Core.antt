@@ -10,7 +10,7 @@ use Rattle.output.specs.Buffer.{placed}
 use Rattle.session.specs.declared.Fixed.{Fixed}
 use Rattle.session.specs.declared.Control.{Control}
 use Rattle.session.specs.declared.Written.{Written}
-use Rattle.effects.specs.declared.Gives.{Gives}
+use Rattle.gives.specs.declared.Gives.{Gives}
 use Rattle.session.specs.declared.settling.Plan.{Plan}
 use Rattle.session.specs.declared.octet.Turn.{Turn}
 use Rattle.session.specs.Steps.{

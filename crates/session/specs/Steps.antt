@@ -10,13 +10,14 @@ use Rattle.rules.specs.declared.Kind.{Kind}
 use Rattle.effects.specs.declared.Place.{Place}
 use Rattle.effects.specs.declared.Direction.{Direction}
 use Rattle.session.specs.declared.Control.{Control}
-use Rattle.effects.specs.declared.Gives.{Gives}
-use Rattle.effects.specs.declared.Owes.{Owes}
+use Rattle.gives.specs.declared.Gives.{Gives}
+use Rattle.kinds.specs.declared.Owes.{Owes}
 use Rattle.effects.specs.declared.ClientEffect.{ClientEffect}
 use Rattle.effects.specs.declared.ServerEffect.{ServerEffect}
 use Rattle.session.specs.declared.Fixed.{Fixed}
-use Rattle.effects.specs.Kinds.{queueOf, headOf, answersAtHead, pushed, shifted}
-use Rattle.effects.specs.Effects.{at, givesText, clientEffect, serverEffect}
+use Rattle.kinds.specs.Kinds.{queueOf, headOf, answersAtHead, pushed, shifted}
+use Rattle.gives.specs.Text.{givesText}
+use Rattle.effects.specs.Effects.{at, clientEffect, serverEffect}
 
 -- what octets change: the control, the two arrays of held octets and the array of kinds
 pub record State : Type 0 where

@@ -3,7 +3,7 @@ ghost use mathlib.Core.Path.{_≡_};
 ghost use Prim.Native.Nat.{_≤_};
 ghost use lib.ListN.{take};
 ghost use Rattle.rules.specs.Octets.{every};
-ghost use Rattle.effects.specs.Kinds.{isListed};
+ghost use Rattle.kinds.specs.Kinds.{isListed};
 ghost use Rattle.rules.specs.Answers.{sideOf};
 ghost use Rattle.session.specs.Calls.{soundDirection, sound as soundIn, isEnded, directionOf, refusalOf};
 ghost use Rattle.session.specs.Refused.{refusalBy};

@@ -119,9 +119,9 @@ fn put_command(out: &mut [u8], line: &[u8]) -> usize {
     match commands::command(line, CLIENT, true, on) {
         Command::Passes => output::put(out, 0, b"passes\n"),
         Command::Auth => output::put(out, 0, b"passes, AUTH\n"),
-        Command::Passive => output::put_pasv(out, 0),
-        Command::Port(port) => output::put_port_line(out, 0, MAPPED, port),
-        Command::Answered(answer) => output::put_answer(out, 0, answer),
+        Command::Passive => writers::put_pasv(out, 0),
+        Command::Port(port) => writers::put_port_line(out, 0, MAPPED, port),
+        Command::Answered(answer) => writers::put_answer(out, 0, answer),
     }
 }
 
@@ -135,7 +135,7 @@ fn put_reply_line(out: &mut [u8], content: &[u8]) -> usize {
 
 fn put_passive_reply(out: &mut [u8], content: &[u8]) -> usize {
     match replies::passive_reply(content) {
-        PassiveReply::Port(port) => output::put_extended_passive(out, 0, port),
+        PassiveReply::Port(port) => writers::put_extended_passive(out, 0, port),
         PassiveReply::Unreadable => output::put(out, 0, b"passes\n"),
     }
 }
@@ -167,13 +167,13 @@ fn print_sums() {
 
 fn with_port_line(before: Adler, port: u16) -> Adler {
     let mut out = [0u8; 64];
-    let n = output::put_port_line(&mut out, 0, MAPPED, port);
+    let n = writers::put_port_line(&mut out, 0, MAPPED, port);
     with_octets(before, first(&out, n))
 }
 
 fn with_extended_passive(before: Adler, port: u16) -> Adler {
     let mut out = [0u8; 64];
-    let n = output::put_extended_passive(&mut out, 0, port);
+    let n = writers::put_extended_passive(&mut out, 0, port);
     with_octets(before, first(&out, n))
 }
 

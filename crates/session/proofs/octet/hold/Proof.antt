@@ -8,8 +8,8 @@ use lib.ListN.{length}
 use lib.Seq.{set-out}
 use types.Run.{OneOf, miss}
 use denote.Enum.Declared.{tagOf}
-use Rattle.effects.proofs.Gives.{the-type}
-use Rattle.effects.specs.declared.Gives.{Gives}
+use Rattle.gives.proofs.Gives.{the-type}
+use Rattle.gives.specs.declared.Gives.{Gives}
 use Rattle.session.specs.Steps.{stored}
 use Rattle.session.proofs.octet.hold.Statement.{statement}
 use Rattle.session.proofs.octet.hold.Tie as tie

@@ -6,7 +6,7 @@ use lib.ListN.{length, take, drop}
 use borrow.Author.Needs.{needs}
 use borrow.Author.Tests.{le-leb, lt-leb}
 use Rattle.rules.specs.Octets.{every}
-use Rattle.effects.specs.Kinds.{isListed}
+use Rattle.kinds.specs.Kinds.{isListed}
 use Rattle.session.proofs.Tests.{every-yes, every-not, every-end}
 use Rattle.session.proofs.refusing.kinds_listed.Statement.{statement}
 use Rattle.session.proofs.refusing.kinds_listed.Tie as tie

@@ -5,7 +5,7 @@ use borrow.Author.Needs.{needs}
 use lib.ListN.{length, drop}
 use Rattle.rules.specs.Replies.{isAuth, authAtHead}
 use Rattle.rules.specs.declared.Kind.{Kind}
-use Rattle.effects.specs.Kinds.{queueOf}
+use Rattle.kinds.specs.Kinds.{queueOf}
 use Rattle.queue.proofs.Answers.{none-owed, none-kept, at-first, at-none}
 use Rattle.session.proofs.settling.auth_at.Statement.{statement}
 use Rattle.session.proofs.settling.auth_at.Tie as tie

@@ -5,7 +5,7 @@ use Prim.Native.Nat.{ℕ, _≤_, _-_}
 use native.Mathlib.Omega.{arith}
 use borrow.Author.Needs.{needs}
 use lib.ListN.{length, set, getD}
-use Rattle.effects.specs.Kinds.{shifted}
+use Rattle.kinds.specs.Kinds.{shifted}
 use Rattle.session.proofs.Shifting.{none-shifted, one-shifted}
 use Rattle.session.proofs.settling.shift.Statement.{statement}
 use Rattle.session.proofs.settling.shift.Tie as tie

@@ -1,0 +1,95 @@
+-- By the cases of what is given.
+use mathlib.Core.List.{[], _∷_}
+use mathlib.Core.Path.{ap, sym, _∙_}
+use lib.ListN.{length, length-append}
+use borrow.Author.Needs.{needs}
+use Rattle.gives.specs.Text.{givesText}
+use Rattle.gives.proofs.Texts.{text-of}
+use Rattle.gives.proofs.gives_length.Statement.{statement}
+use Rattle.gives.proofs.gives_length.Tie as tie
+
+enum-told : tie.Need-enum-told
+enum-told c = search needs
+
+enum-told-2 : tie.Need-enum-told-2
+enum-told-2 c = search needs
+
+enum-told-3 : tie.Need-enum-told-3
+enum-told-3 c = search needs
+
+enum-told-4 : tie.Need-enum-told-4
+enum-told-4 c = search needs
+
+add-result : tie.Need-add-result
+add-result c = search needs
+
+enum-told-5 : tie.Need-enum-told-5
+enum-told-5 c = search needs
+
+pasv-length-requires : tie.Need-pasv-length-requires
+pasv-length-requires c κs = search needs
+
+enum-known-gives : tie.Need-enum-known-gives
+enum-known-gives c = search needs
+
+port-line-length-requires : tie.Need-port-line-length-requires
+port-line-length-requires c κs = search needs
+
+enum-known-gives-2 : tie.Need-enum-known-gives-2
+enum-known-gives-2 c = search needs
+
+extended-passive-length-requires : tie.Need-extended-passive-length-requires
+extended-passive-length-requires c κs = search needs
+
+returns : tie.Need-returns
+unfolding givesText
+returns c = ap length (text-of _ _ _ (c .enum-told .given .1))
+
+returns-2 : tie.Need-returns-2
+unfolding givesText
+returns-2 c = ap length (text-of _ _ _ (c .enum-told2 .given .1))
+
+returns-3 : tie.Need-returns-3
+unfolding givesText
+returns-3 c = ap length (text-of _ _ _ (c .enum-told3 .given .1))
+
+returns-4 : tie.Need-returns-4
+unfolding givesText
+returns-4 c =
+    let a = c .before .before .before .args in
+    sym (length-append (a .held .now) (a .x ∷ [])) ∙ ap length (text-of _ _ _ (c .enum-told4 .given .1))
+
+returns-5 : tie.Need-returns-5
+unfolding givesText
+returns-5 c = c .pasv-length .ensures ∙ ap length (text-of _ _ _ (c .before .enum-told5 .given .1))
+
+returns-6 : tie.Need-returns-6
+unfolding givesText
+returns-6 c = c .port-line-length .ensures ∙ ap length (text-of _ _ _ (c .before .before .gives .given .1))
+
+returns-7 : tie.Need-returns-7
+unfolding givesText
+returns-7 c = c .extended-passive-length .ensures ∙ ap length (text-of _ _ _ (c .before .before .gives2 .given .1))
+
+pub gives-length-spec : {M : Type 1} → statement M
+gives-length-spec =
+    tie.close
+    (tie.spec
+    enum-told
+    enum-told-2
+    enum-told-3
+    enum-told-4
+    add-result
+    enum-told-5
+    pasv-length-requires
+    enum-known-gives
+    port-line-length-requires
+    enum-known-gives-2
+    extended-passive-length-requires
+    returns
+    returns-2
+    returns-3
+    returns-4
+    returns-5
+    returns-6
+    returns-7)

@@ -1,0 +1,2 @@
+-- What an octet gives, as a text.
+pub mod Text

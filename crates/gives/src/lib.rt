@@ -1,0 +1,78 @@
+// What an octet gives to the other side, and its octets put into a buffer.
+ghost use mathlib.Core.Path.{_≡_};
+ghost use mathlib.Core.List.{_++_, _∷_, []};
+ghost use lib.ListN.{length};
+ghost use Rattle.output.specs.Buffer.{placed, placeAfter};
+ghost use Rattle.gives.specs.Text.{givesText};
+
+// What an octet gives: nothing since it is held; nothing; itself; the held octets and itself; or a line of the gateway's.
+pub enum Gives {
+    Held,
+    Nothing,
+    Octet,
+    HeldAndOctet,
+    Pasv,
+    Port(u16),
+    ExtendedPassive(u16),
+}
+
+// How many octets are given.
+pub fn gives_length(gives: Gives, mapped: [u8; 4], held: &[u8], x: u8) -> usize
+    ensures { λ r. ⌜ r ≡ length (givesText mapped (now (held .entry)) x gives) ⌝ }
+{
+    match gives {
+        Gives::Held => 0,
+        Gives::Nothing => 0,
+        Gives::Octet => 1,
+        Gives::HeldAndOctet => held.len() + 1,
+        Gives::Pasv => writers::pasv_length(),
+        Gives::Port(port) => writers::port_line_length(mapped, port),
+        Gives::ExtendedPassive(port) => writers::extended_passive_length(port),
+    }
+}
+
+// The octets given are put into a buffer; where they do not fit, nothing is.
+pub fn put_gives(
+    out: &mut [u8],
+    at: usize,
+    gives: Gives,
+    mapped: [u8; 4],
+    held: &[u8],
+    x: u8,
+) -> usize
+    ensures { λ r. ⌜ r ≡ placeAfter (now (out .entry)) at (givesText mapped (now (held .entry)) x gives) ⌝ }
+    ensures { λ r. ⌜ now (out .exit) ≡ placed (now (out .entry)) at (givesText mapped (now (held .entry)) x gives) ⌝ }
+{
+    match gives {
+        Gives::Held => at,
+        Gives::Nothing => at,
+        Gives::Octet => put_octet(out, at, x),
+        Gives::HeldAndOctet => put_line(out, at, held, x),
+        Gives::Pasv => writers::put_pasv(out, at),
+        Gives::Port(port) => writers::put_port_line(out, at, mapped, port),
+        Gives::ExtendedPassive(port) => writers::put_extended_passive(out, at, port),
+    }
+}
+
+// One octet as a slice of its own.
+fn put_octet(out: &mut [u8], at: usize, x: u8) -> usize
+    ensures { λ r. ⌜ r ≡ placeAfter (now (out .entry)) at (x ∷ []) ⌝ }
+    ensures { λ r. ⌜ now (out .exit) ≡ placed (now (out .entry)) at (x ∷ []) ⌝ }
+{
+    output::put(out, at, &[x])
+}
+
+// The held octets and one more, where all have room.
+fn put_line(out: &mut [u8], at: usize, held: &[u8], x: u8) -> usize
+    ensures { λ r. ⌜ r ≡ placeAfter (now (out .entry)) at (now (held .entry) ++ (x ∷ [])) ⌝ }
+    ensures { λ r. ⌜ now (out .exit) ≡ placed (now (out .entry)) at (now (held .entry) ++ (x ∷ [])) ⌝ }
+{
+    if out.len() < at {
+        return at;
+    }
+    if out.len() - at <= held.len() {
+        return at;
+    }
+    let next = output::put(out, at, held);
+    put_octet(out, next, x)
+}

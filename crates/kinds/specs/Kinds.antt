@@ -1,0 +1,76 @@
+-- The owed kinds as numbers of the record.
+use mathlib.Core.Bool.{Bool, true, false}
+use mathlib.Core.List.{List, [], _∷_, _++_, map}
+use Prim.Native.Nat.{ℕ, suc, _+_, _-_}
+use lib.Dec.{eqb, leb}
+use lib.ListN.{take, drop, set, getD}
+use Rattle.rules.specs.Octets.{choose}
+use Rattle.rules.specs.declared.OwnAnswer.{OwnAnswer}
+use Rattle.rules.specs.declared.Kind.{Kind}
+use Rattle.kinds.specs.declared.Owes.{Owes}
+
+unfoldable pub stateCode : Bool → Bool → ℕ
+stateCode false false = 4
+stateCode true false = 5
+stateCode false true = 6
+stateCode true true = 7
+
+unfoldable pub answerCode : OwnAnswer → ℕ
+answerCode OwnAnswer.ProtocolNotSupported = 2
+answerCode OwnAnswer.ParameterNotImplemented = 3
+answerCode (OwnAnswer.State sw) = stateCode (sw .epsv) (sw .eprt)
+
+-- the number of a kind
+unfoldable pub codeOf : Kind → ℕ
+codeOf Kind.Plain = 0
+codeOf Kind.TranslatedEpsv = 1
+codeOf (Kind.Own a) = answerCode a
+codeOf Kind.Auth = 8
+
+-- "an owed kind not listed here" has a number over 8
+unfoldable pub isListed : ℕ → Bool
+isListed n = leb n 8
+
+abbrev pub stateKind : Bool → Bool → Kind
+stateKind epsv eprt = Kind.Own (OwnAnswer.State (record { epsv = epsv; eprt = eprt }))
+
+-- the kind of a number; one that is not listed counts as plain, and is refused before it counts
+unfoldable pub kindOf : ℕ → Kind
+kindOf n =
+    choose (eqb n 1) Kind.TranslatedEpsv
+    (choose (eqb n 2) (Kind.Own OwnAnswer.ProtocolNotSupported)
+    (choose (eqb n 3) (Kind.Own OwnAnswer.ParameterNotImplemented)
+    (choose (eqb n 4) (stateKind false false)
+    (choose (eqb n 5) (stateKind true false)
+    (choose (eqb n 6) (stateKind false true)
+    (choose (eqb n 7) (stateKind true true)
+    (choose (eqb n 8) Kind.Auth Kind.Plain)))))))
+
+-- the kinds owed, first one first
+unfoldable pub queueOf : List ℕ → ℕ → List Kind
+queueOf kinds owed = map kindOf (take owed kinds)
+
+unfoldable pub headOf : List ℕ → ℕ → Owes
+headOf kinds owed = choose (eqb owed 0) Owes.Nothing (Owes.One (kindOf (getD kinds 0 0)))
+
+-- how many of the gateway's own answers stand at the head of a queue
+unfoldable pub answersAtHead : List Kind → ℕ
+answersAtHead [] = 0
+answersAtHead (Kind.Plain ∷ ks) = 0
+answersAtHead (Kind.TranslatedEpsv ∷ ks) = 0
+answersAtHead (Kind.Own a ∷ ks) = suc (answersAtHead ks)
+answersAtHead (Kind.Auth ∷ ks) = 0
+
+-- a kind is put behind the last one owed
+unfoldable pub pushed : List ℕ → ℕ → Owes → List ℕ
+pushed kinds owed Owes.Nothing = kinds
+pushed kinds owed (Owes.One k) = set kinds owed (codeOf k)
+
+-- the numbers moved n places to the front; those behind the last one owed stay
+unfoldable pub shifted : List ℕ → ℕ → ℕ → List ℕ
+shifted kinds n owed = drop n (take owed kinds) ++ drop (owed - n) kinds
+
+-- this page's definitions, for a proof that computes with them
+unfoldable pub kinds-opened : Unit {0}
+unfolding stateCode answerCode codeOf isListed kindOf queueOf headOf answersAtHead pushed shifted
+kinds-opened = tt

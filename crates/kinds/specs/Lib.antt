@@ -1,0 +1,2 @@
+-- The owed kinds as numbers of the record.
+pub mod Kinds

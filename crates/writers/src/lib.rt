@@ -1,0 +1,138 @@
+// The lines that the gateway writes, each with its length known before it is written. A line goes in whole or not at all.
+use output::decimal_length;
+use output::has_room;
+use output::put;
+use output::put_decimal;
+use rules::OwnAnswer;
+use rules::Switches;
+ghost use mathlib.Core.Path.{_≡_};
+ghost use mathlib.Core.List.{[], _∷_, _++_};
+ghost use Prim.Native.Nat.{_≤_};
+ghost use lib.ListN.{length};
+ghost use Rattle.rules.specs.Octets.{decimal};
+ghost use Rattle.rules.specs.Commands.{commas, pasvLine, portLine};
+ghost use Rattle.rules.specs.Replies.{extendedPassiveLine, stateLine, answerLine};
+ghost use Rattle.output.specs.Buffer.{placed, placeAfter, PlacedInRoom};
+
+pub fn pasv_length() -> usize
+    ensures { λ r. ⌜ r ≡ length pasvLine ⌝ }
+{
+    6
+}
+
+pub fn put_pasv(out: &mut [u8], at: usize) -> usize
+    ensures { λ r. ⌜ r ≡ placeAfter (now (out .entry)) at pasvLine ⌝ }
+    ensures { λ r. ⌜ now (out .exit) ≡ placed (now (out .entry)) at pasvLine ⌝ }
+{
+    put(out, at, b"PASV\r\n")
+}
+
+// A number and the octets after it, where both have room.
+fn put_number(out: &mut [u8], at: usize, n: u16, after: &[u8]) -> usize
+    ensures { λ r. ⌜ PlacedInRoom (now (out .entry)) at (decimal n ++ now (after .entry)) r (now (out .exit)) ⌝ }
+{
+    let next = put_decimal(out, at, n);
+    put(out, next, after)
+}
+
+pub fn extended_passive_length(port: u16) -> usize
+    ensures { λ r. ⌜ r ≡ length (extendedPassiveLine port) ⌝ }
+{
+    // the text before the port, the port, the text after it
+    39 + decimal_length(port) + 4
+}
+
+pub fn put_extended_passive(out: &mut [u8], at: usize, port: u16) -> usize
+    ensures { λ r. ⌜ r ≡ placeAfter (now (out .entry)) at (extendedPassiveLine port) ⌝ }
+    ensures { λ r. ⌜ now (out .exit) ≡ placed (now (out .entry)) at (extendedPassiveLine port) ⌝ }
+{
+    if !has_room(out.len(), at, extended_passive_length(port)) {
+        return at;
+    }
+    let next = put(out, at, b"229 Entering Extended Passive Mode (|||");
+    put_number(out, next, port, b"|)\r\n")
+}
+
+pub fn port_line_length(mapped: [u8; 4], port: u16) -> usize
+    ensures { λ r. ⌜ r ≡ length (portLine mapped port) ⌝ }
+{
+    let high = (port / 256) as u8;
+    let low = (port % 256) as u8;
+    let numbers = pair_length(mapped[0], mapped[1])
+        + pair_length(mapped[2], mapped[3])
+        + pair_length(high, low);
+    // PORT and a space, two commas between the pairs, CR LF
+    5 + numbers + 2 + 2
+}
+
+pub fn put_port_line(out: &mut [u8], at: usize, mapped: [u8; 4], port: u16) -> usize
+    ensures { λ r. ⌜ r ≡ placeAfter (now (out .entry)) at (portLine mapped port) ⌝ }
+    ensures { λ r. ⌜ now (out .exit) ≡ placed (now (out .entry)) at (portLine mapped port) ⌝ }
+{
+    if !has_room(out.len(), at, port_line_length(mapped, port)) {
+        return at;
+    }
+    let high = (port / 256) as u8;
+    let low = (port % 256) as u8;
+    let mut next = put(out, at, b"PORT ");
+    next = put_pair(out, next, mapped[0], mapped[1], b",");
+    next = put_pair(out, next, mapped[2], mapped[3], b",");
+    put_pair(out, next, high, low, b"\r\n")
+}
+
+fn pair_length(a: u8, b: u8) -> usize
+    ensures { λ r. ⌜ r ≡ length (commas (a ∷ b ∷ [])) ⌝ }
+    ensures { λ r. ⌜ r ≤ 11 ⌝ }
+{
+    decimal_length(a as u16) + 1 + decimal_length(b as u16)
+}
+
+// Two numbers with a comma between and the octets after them, where all have room.
+fn put_pair(out: &mut [u8], at: usize, a: u8, b: u8, after: &[u8]) -> usize
+    ensures { λ r. ⌜ PlacedInRoom (now (out .entry)) at (commas (a ∷ b ∷ []) ++ now (after .entry)) r (now (out .exit)) ⌝ }
+{
+    let next = put_number(out, at, a as u16, b",");
+    put_number(out, next, b as u16, after)
+}
+
+pub fn answer_length(a: OwnAnswer) -> usize
+    ensures { λ r. ⌜ r ≡ length (answerLine a) ⌝ }
+{
+    match a {
+        OwnAnswer::ProtocolNotSupported => 36,
+        OwnAnswer::ParameterNotImplemented => 48,
+        OwnAnswer::State(on) => { if on.epsv && on.eprt { 14 } else { 10 } }
+    }
+}
+
+pub fn put_answer(out: &mut [u8], at: usize, a: OwnAnswer) -> usize
+    ensures { λ r. ⌜ r ≡ placeAfter (now (out .entry)) at (answerLine a) ⌝ }
+    ensures { λ r. ⌜ now (out .exit) ≡ placed (now (out .entry)) at (answerLine a) ⌝ }
+{
+    match a {
+        OwnAnswer::ProtocolNotSupported => put(out, at, b"522 Network protocol not supported\r\n"),
+        OwnAnswer::ParameterNotImplemented => put(
+            out,
+            at,
+            b"504 Command not implemented for that parameter\r\n",
+        ),
+        OwnAnswer::State(on) => put_state(out, at, on),
+    }
+}
+
+// The 216 line, by the switches that are on.
+fn put_state(out: &mut [u8], at: usize, on: Switches) -> usize
+    ensures { λ r. ⌜ r ≡ placeAfter (now (out .entry)) at (stateLine (on .epsv) (on .eprt)) ⌝ }
+    ensures { λ r. ⌜ now (out .exit) ≡ placed (now (out .entry)) at (stateLine (on .epsv) (on .eprt)) ⌝ }
+{
+    if on.epsv {
+        if on.eprt {
+            return put(out, at, b"216 EPSVEPRT\r\n");
+        }
+        return put(out, at, b"216 EPSV\r\n");
+    }
+    if on.eprt {
+        return put(out, at, b"216 EPRT\r\n");
+    }
+    put(out, at, b"216 NONE\r\n")
+}
