@@ -1,7 +1,8 @@
 """Our session and the reference gateway, call by call: the same lists of calls give the same answers, octets and offsets.
 
-usage: calls.py OURS REFERENCE [SEED [SCRIPTS]]. Both programs read scripts (see crates/calls/src/main.rt) and write what each call did. Beside
-hand-made lists, lists are made by seed: valid and odd lines, cut anywhere, small rooms, wrong directions, calls after ends.
+usage: calls.py OURS REFERENCE [SEED [SCRIPTS]], or calls.py --stored, which writes the hand-made lists, with which crates/calls/stdin ends. Both
+programs read scripts (see crates/calls/src/main.rt) and write what each call did. Beside the hand-made lists, lists are made by seed: valid and
+odd lines, cut anywhere, small rooms, wrong directions, calls after ends.
 """
 import random
 import struct
@@ -11,6 +12,7 @@ import sys
 from definitions import CLIENT, MAPPED, line
 
 LIMIT = 60000  # octets of scripts handed to the programs at once
+NOOP, EPSV, ALGS, AUTH = b"NOOP\r\n", b"EPSV\r\n", b"ALGS STATUS64\r\n", b"AUTH TLS\r\n"
 
 
 def arrival(side, octets, server=4096, client=4096):
@@ -25,25 +27,51 @@ def script(flags, *calls):
     return CLIENT + MAPPED + bytes([flags]) + b"".join(calls)
 
 
+def stops():
+    """Calls that stop in the middle for want of room, and go on with the rest."""
+    greeting = arrival(1, b"220 hi\r\n")
+    long = b"x" * 600 + b"\r\n"
+    held = b"x" * 511
+    for room in (0, 1, 510, 511, 512, 513, 601, 602):
+        # the 512th octet needs 512 at once; the ones before it need nothing, the ones behind it one each
+        taken = 511 if room < 512 else room
+        yield script(7, greeting, arrival(0, long, room, 4096), arrival(0, long[taken:]))
+        yield script(7, greeting, arrival(1, long, 4096, room), arrival(1, long[taken:]))
+        yield script(7, greeting, arrival(0, b"EPS", room, room), end(0, room, room), end(0), end(0))
+        for side in (0, 1):
+            yield script(7, greeting, arrival(side, held), end(side, room, room), end(side), arrival(side, b"x"))
+    # a line's LF lets own answers go behind it: fifteen of 14 octets, then sixteen of 48 behind 512 octets, the most that an octet gives
+    for room in (0, 511, 512, 721, 722):
+        yield script(7, arrival(0, ALGS * 15), arrival(1, b"220 " + b"y" * 507 + b"\n", 4096, room), arrival(1, b"200 z\r\n"))
+    for room in (0, 512, 1279, 1280, 1281):
+        yield script(1, greeting, arrival(1, b"200-\r\n200 " + b" " * 507), arrival(0, b"ALGS\r\n" * 16), arrival(1, b"\n", 0, room), arrival(1, b"\n"))
+    # a client octet that waits for the client's buffer: an own answer, and a reply's octets that AUTH lets go
+    for room in (0, 13, 14):
+        yield script(7, greeting, arrival(0, ALGS + NOOP, 4096, room), arrival(0, ALGS[-1:] + NOOP))
+    for room in (0, 3, 4):
+        yield script(7, greeting, arrival(1, b"held"), arrival(0, AUTH + EPSV, 4096, room), arrival(0, AUTH[-1:] + EPSV))
+
+
 def hand_made():
     """Stops in the middle, sixteen owed, AUTH behind owed replies and with held octets, ends in every order."""
     greeting = arrival(1, b"220 hi\r\n")
-    noop, epsv, algs, auth = b"NOOP\r\n", b"EPSV\r\n", b"ALGS STATUS64\r\n", b"AUTH TLS\r\n"
-    yield script(7, greeting, arrival(0, epsv), arrival(1, b"227 x (192,0,2,31,237,19)\r\n"))
-    for room in (0, 1, 511, 512, 513, 1279, 1280):
-        long = b"x" * 600 + b"\r\n"
-        yield script(7, greeting, arrival(0, long, room, 4096), arrival(0, long[min(room, 511):], 4096, 4096))
-        yield script(7, greeting, arrival(1, long, 4096, room), arrival(1, long, 4096, 4096))
-        yield script(7, greeting, arrival(0, b"EPS", room, room), end(0, room, room), end(0))
-        yield script(7, arrival(0, algs * 15), arrival(1, b"220 " + b"y" * 507 + b"\n", 4096, room), arrival(1, b"200 z\r\n"))
-    yield script(7, *[arrival(0, noop)] * 17, arrival(1, b"200 ok\r\n" * 18), arrival(0, noop * 3))
-    yield script(7, arrival(0, noop * 3 + auth + epsv * 20), arrival(1, b"22"), arrival(1, b"0 a\r\n200 b\r\n200 c\r\n200 d\r\n2"), arrival(1, b"34 go\r\n\x16\x03"))
-    yield script(7, greeting, arrival(1, b"234"), arrival(0, auth), arrival(1, b" held"), arrival(0, b"\x16\x03\n"))
-    yield script(7, greeting, arrival(1, b"200-"), arrival(0, algs + auth), arrival(1, b"x\r\n200 y\r\nz"))
+    yield script(7, greeting, arrival(0, EPSV), arrival(1, b"227 x (192,0,2,31,237,19)\r\n"))
+    yield from stops()
+    yield script(7, *[arrival(0, NOOP)] * 17, arrival(1, b"200 ok\r\n" * 18), arrival(0, NOOP * 3))
+    yield script(7, arrival(0, NOOP * 17), arrival(0, b""), arrival(1, b"200 ok\r\n"), arrival(0, NOOP * 3))
+    yield script(7, arrival(0, NOOP * 3 + AUTH + EPSV * 20), arrival(1, b"22"), arrival(1, b"0 a\r\n200 b\r\n200 c\r\n200 d\r\n2"), arrival(1, b"34 go\r\n\x16\x03"))
+    yield script(7, arrival(0, NOOP * 14 + AUTH + EPSV * 9), arrival(0, EPSV), arrival(1, b"200 ok\r\n" * 17))
+    yield script(7, greeting, arrival(1, b"234"), arrival(0, AUTH), arrival(1, b" held"), arrival(0, b"\x16\x03\n"))
+    yield script(7, greeting, arrival(1, b"200-"), arrival(0, ALGS + AUTH), arrival(1, b"x\r\n200 y\r\nz"))
+    yield script(7, arrival(1, b"2"), end(1), arrival(0, ALGS * 17), arrival(0, NOOP), end(0))
     for first, second in ((0, 1), (1, 0), (0, 0), (1, 1)):
         yield script(7, greeting, arrival(0, b"EP"), arrival(1, b"2"), end(first), end(second), arrival(0, b"SV\r\n"), arrival(1, b"00\r\n"), end(2))
+
+
+def every_flag():
+    """Each of the 256 flag octets, most of which a setup refuses."""
     for flags in range(256):
-        yield script(flags, greeting, arrival(0, epsv + b"EPRT |2|2001:db8:2::31|21|\r\n" + algs))
+        yield script(flags, arrival(1, b"220 hi\r\n"), arrival(0, EPSV + b"EPRT |2|2001:db8:2::31|21|\r\n" + ALGS))
 
 
 def made(r):
@@ -62,9 +90,12 @@ def made(r):
     return script(r.choice([7, 7, 7, 1, 3, 6, 0, r.randint(0, 255)]), *calls)
 
 
+def given(scripts):
+    return b"".join(struct.pack(">I", len(s)) + s for s in scripts)
+
+
 def results(program, scripts):
-    given = b"".join(struct.pack(">I", len(s)) + s for s in scripts)
-    written = subprocess.run([program], input=given, capture_output=True, check=True).stdout
+    written = subprocess.run([program], input=given(scripts), capture_output=True, check=True).stdout
     found = []
     while written:
         n = struct.unpack(">I", written[:4])[0]
@@ -85,11 +116,14 @@ def batches(scripts):
 
 
 def main():
+    if sys.argv[1:] == ["--stored"]:
+        sys.stdout.buffer.write(given(hand_made()))
+        return 0
     ours, reference = sys.argv[1:3]
     seed = int(sys.argv[3]) if len(sys.argv) > 3 else 1
     count = max(1, int(sys.argv[4])) if len(sys.argv) > 4 else 5000
     r = random.Random(seed)
-    scripts = [*hand_made(), *(made(r) for _ in range(count))]
+    scripts = [*hand_made(), *every_flag(), *(made(r) for _ in range(count))]
     seen = 0
     for batch in batches(scripts):
         one, other = results(ours, batch), results(reference, batch)

@@ -88,8 +88,10 @@ def unescaped(field):
 def replayed(replay, flags, entries):
     """What the reference writes to each side, or None where the session stops on the way."""
     report = subprocess.run([replay], input=session_file(flags, entries), capture_output=True, check=True).stdout
-    lines = report.splitlines()[1:]
-    if not lines or lines[-1] == b"STOPPED":
+    header, *lines = report.splitlines() or [b""]
+    if header != b"FTP64 REPORT %d" % (len(entries) + 1):
+        sys.exit(f"the reference refuses a session file that is one: {header}")
+    if lines[-1] == b"STOPPED":
         return None
     fields = [entry.split(b" ") for entry in lines]
     return b"".join(unescaped(f[3]) for f in fields), b"".join(unescaped(f[4]) for f in fields)

@@ -91,11 +91,13 @@ def changed(place, octet):
     return GOOD[:place] + bytes([octet]) + GOOD[place + 1 :]
 
 
+SECOND_SETUP = bytes([0, 2] + [4, 0, 0, 21] * 2) + (BODY + b"\0") * 2
+TOO_LONG = bytes([0, 2, 4, 0, 0, 21, 0, 0, 4, 1]) + BODY + b"\0" + b"x" * 1025
 # what is no session file, and the number that refuses it
 REFUSED = [
     (b"", 7), (GOOD[:1], 7), (GOOD[:2], 7), (GOOD[:13], 7), (GOOD[:14], 7), (GOOD[:-1], 7), (GOOD + b"x", 7), (changed(9, 1), 7),
     (changed(1, 0), 8), (changed(1, 49), 8), (changed(0, 1), 8), (b"\0\0", 8), (changed(6, 5), 8), (changed(6, 4), 8), (changed(2, 0), 8),
-    (changed(7, 1), 8), (changed(8, 5), 8), (changed(13, 1), 8), (changed(5, 20), 8), (changed(5, 22), 8),
+    (SECOND_SETUP, 8), (TOO_LONG, 8), (changed(7, 1), 8), (changed(8, 5), 8), (changed(13, 1), 8), (changed(5, 20), 8), (changed(5, 22), 8),
 ]
 
 

@@ -1,22 +1,36 @@
-// Hands records to arrive and end that no session leads to, and writes the number of each answer: number 4 refuses them all, and the last one,
-// which is sound, is taken.
+// Hands records to arrive and end that no session leads to, in both directions. Number 4 refuses each record of the first group, and takes nothing,
+// writes nothing and leaves the record; those of the second group stand on the edge and are taken; an unknown direction comes before a bad record.
+//
+// A line is the answer's number, the octets taken, those written to the server and to the client, the first and the last octet of each buffer (7 where it
+// is untouched), and of the record: the replies owed, the octets held of either direction, and the octets taken from either side.
 use effects::Direction;
 use effects::Place;
 use libc::STDOUT_FILENO;
 use rules::Answer;
+use session::Called;
 use session::Control;
 use session::Session;
 
+const SIZE: usize = 600;
+
 fn main() {
     let fresh = session::setup([0u8; 16], [0u8; 4], 7).session;
-    try_both(dead(fresh));
-    try_both(with_control(fresh, owing(fresh, 17)));
-    try_both(with_kind(fresh, 9));
-    try_both(with_control(fresh, standing(fresh, Place::Holding, 512)));
-    try_both(with_control(fresh, standing(fresh, Place::Flowing, 1)));
-    try_both(with_control(fresh, standing(fresh, Place::Passing, 1)));
-    try_both(with_control(fresh, standing(fresh, Place::Ended, 1)));
-    try_both(with_control(fresh, standing(fresh, Place::Holding, 511)));
+    io::write_all(STDOUT_FILENO, b"refused\n");
+    try_all(dead(fresh));
+    try_all(with_control(fresh, owing(fresh, 17)));
+    try_all(with_kind(fresh, 0, 9));
+    try_all(with_kind(with_control(fresh, owing(fresh, 16)), 15, 9));
+    try_places(fresh, Place::Holding, 512);
+    try_places(fresh, Place::Flowing, 1);
+    try_places(fresh, Place::Passing, 1);
+    try_places(fresh, Place::Ended, 1);
+    io::write_all(STDOUT_FILENO, b"taken\n");
+    try_all(with_kind(fresh, 0, 8));
+    try_all(with_kind(fresh, 1, 9));
+    try_all(with_control(fresh, owing(fresh, 16)));
+    try_places(fresh, Place::Holding, 511);
+    io::write_all(STDOUT_FILENO, b"no such direction\n");
+    try_call(dead(fresh), 2);
 }
 
 fn dead(session: Session) -> Session {
@@ -25,9 +39,9 @@ fn dead(session: Session) -> Session {
     s
 }
 
-fn with_kind(session: Session, kind: u8) -> Session {
+fn with_kind(session: Session, place: u8, kind: u8) -> Session {
     let mut s = session;
-    s.kinds[0] = kind;
+    s.kinds[(place % 16) as usize] = kind;
     s
 }
 
@@ -43,38 +57,93 @@ fn owing(session: Session, owed: usize) -> Control {
     c
 }
 
-// The control with the client's direction at a place and some octets held.
-fn standing(session: Session, place: Place, held: usize) -> Control {
+// Both directions forged, each by itself.
+fn try_places(session: Session, place: Place, held: usize) {
     let c = session.control;
     let switches = c.switches;
+    let client = c.client;
     let server = c.server;
-    let client = Direction { place, held };
-    Control {
-        switches,
-        client,
-        server,
-        owed: c.owed,
-        unfinished: c.unfinished,
-    }
+    let forged = Direction { place, held };
+    try_all(with_control(
+        session,
+        Control {
+            switches,
+            client: forged,
+            server,
+            owed: c.owed,
+            unfinished: c.unfinished,
+        },
+    ));
+    try_all(with_control(
+        session,
+        Control {
+            switches,
+            client,
+            server: forged,
+            owed: c.owed,
+            unfinished: c.unfinished,
+        },
+    ));
 }
 
-// An arrival of one octet and an end, both of the client.
-fn try_both(session: Session) {
-    let mut to_server = [7u8; 600];
-    let mut to_client = [7u8; 600];
-    let arrived = session::arrive(session, 0, b"x", &mut to_server, &mut to_client);
-    let first = arrived.answer;
-    print(first, arrived.taken);
-    let ended = session::end(session, 0, &mut to_server, &mut to_client);
-    let second = ended.answer;
-    print(second, ended.taken);
+fn try_all(session: Session) {
+    try_call(session, 0);
+    try_call(session, 1);
 }
 
-fn print(answer: Answer, taken: usize) {
-    io::print_decimal(STDOUT_FILENO, number(answer) as u64);
-    io::write_all(STDOUT_FILENO, b" ");
-    io::print_decimal(STDOUT_FILENO, taken as u64);
+// An arrival of one octet and an end, each of the record as it came.
+fn try_call(session: Session, direction: u8) {
+    let mut to_server = [7u8; SIZE];
+    let mut to_client = [7u8; SIZE];
+    let arrived = session::arrive(session, direction, b"x", &mut to_server, &mut to_client);
+    print(arrived, &to_server, &to_client);
+    let mut to_server = [7u8; SIZE];
+    let mut to_client = [7u8; SIZE];
+    let ended = session::end(session, direction, &mut to_server, &mut to_client);
+    print(ended, &to_server, &to_client);
+}
+
+fn print(called: Called, to_server: &[u8], to_client: &[u8]) {
+    let answer = called.answer;
+    let written = called.written;
+    print_number(number(answer) as usize);
+    print_number(called.taken);
+    print_number(written.server);
+    print_number(written.client);
+    print_edges(to_server);
+    print_edges(to_client);
+    print_record(called.session);
     io::write_all(STDOUT_FILENO, b"\n");
+}
+
+fn print_edges(buffer: &[u8]) {
+    print_number(octet(buffer, 0) as usize);
+    print_number(octet(buffer, SIZE - 1) as usize);
+}
+
+fn octet(buffer: &[u8], i: usize) -> u8 {
+    if i < buffer.len() {
+        return buffer[i];
+    }
+    0
+}
+
+fn print_record(session: Session) {
+    let control = session.control;
+    let client = control.client;
+    let server = control.server;
+    let up = session.up;
+    let down = session.down;
+    print_number(control.owed);
+    print_number(client.held);
+    print_number(server.held);
+    print_number(up.taken as usize);
+    print_number(down.taken as usize);
+}
+
+fn print_number(n: usize) {
+    io::print_decimal(STDOUT_FILENO, n as u64);
+    io::write_all(STDOUT_FILENO, b" ");
 }
 
 fn number(answer: Answer) -> u8 {
