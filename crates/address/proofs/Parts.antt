@@ -10,7 +10,6 @@ use lib.Dec.{eqb}
 use lib.ListN.{length, getD, take, drop, length-drop}
 use lib.Seq.{drop-cons, drop-drop}
 use Rattle.rules.specs.Octets.{choose, isNot, run, ontoFirst, parts}
-use Rattle.octets.proofs.Runs.{run-length}
 
 -- one d at least: what stands before the first, and the parts of what follows it
 found-by : (d x : ℕ) (s : List ℕ) (n : ℕ) (b : Bool) → (n < length s → parts d s ≡ take n s ∷ parts d (drop (suc n) s)) → choose (not b) (suc n) 0 < suc (length s)

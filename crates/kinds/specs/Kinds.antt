@@ -1,7 +1,7 @@
 -- The owed kinds as numbers of the record.
 use mathlib.Core.Bool.{Bool, true, false}
 use mathlib.Core.List.{List, [], _∷_, _++_, map}
-use Prim.Native.Nat.{ℕ, suc, _+_, _-_}
+use Prim.Native.Nat.{ℕ, suc, _-_}
 use lib.Dec.{eqb, leb}
 use lib.ListN.{take, drop, set, getD}
 use Rattle.rules.specs.Octets.{choose}

@@ -5,9 +5,9 @@ use mathlib.Core.List.{List, [], _∷_}
 use mathlib.Core.Option.{Option, none, some}
 use Prim.Native.Nat.{ℕ, zero, suc, _+_, _-_, _≤_}
 use native.Mathlib.Omega.{arith}
-use lib.ListN.{length, take, drop, length-drop}
+use lib.ListN.{length, take, drop}
 use lib.Seq.{drop-drop}
-use Rattle.rules.specs.Octets.{choose, digit, every, within, run, front, after, value, number}
+use Rattle.rules.specs.Octets.{choose, digit, every, within, run, value, number}
 use Rattle.rules.specs.Address.{both, octetNumber}
 use Rattle.rules.specs.Replies.{afterComma, numbers}
 use Rattle.octets.specs.Numbers.{numberRead}

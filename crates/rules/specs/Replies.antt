@@ -8,7 +8,6 @@ use lib.ListN.{length, getD, take, drop}
 use Rattle.rules.specs.Octets.{oct, space, comma, choose, within, equal, digit, notDigit, front, after, decimal}
 use Rattle.rules.specs.Address.{both, octetNumber}
 use Rattle.rules.specs.Lines.{unchanged, content}
-use Rattle.rules.specs.declared.Switches.{Switches}
 use Rattle.rules.specs.declared.OwnAnswer.{OwnAnswer}
 use Rattle.rules.specs.declared.OwnAnswer.the-variants.{ProtocolNotSupported, ParameterNotImplemented, State}
 use Rattle.rules.specs.declared.Kind.{Kind}

@@ -1,9 +1,6 @@
 -- `client_octet` measures what its turn gives and what settling writes, and then writes both, or leaves all as it was.
 use borrow.Author.Needs.{needs}
-use mathlib.Core.Path.{_≡_}
-use Prim.Native.Nat.{_+_, _≤_}
 use native.Mathlib.Omega.{arith}
-use lib.ListN.{length}
 use Rattle.rules.specs.Answers.{client}
 use Rattle.session.proofs.Octets.{unfit-done, client-planned, client-size, client-no-room, client-no-room-2, client-after}
 use Rattle.session.proofs.octet.client_octet.Statement.{statement}
