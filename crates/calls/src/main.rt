@@ -4,9 +4,9 @@
 ghost use mathlib.Core.Path.{_≡_};
 ghost use Prim.Native.Nat.{_≤_};
 ghost use lib.ListN.{length};
+use kinds::number_of;
 use libc::STDIN_FILENO;
 use libc::STDOUT_FILENO;
-use rules::Answer;
 use session::Called;
 use session::DirectionOffset;
 use session::Session;
@@ -61,7 +61,7 @@ fn run_script(script: &[u8]) {
     let start = p.session;
     let length = run_calls(start, script, false);
     write_number(sum(length, 1));
-    write_octet(number(answer));
+    write_octet(number_of(answer));
     run_calls(start, script, true);
 }
 
@@ -137,7 +137,7 @@ fn write_called(called: Called, to_server: &[u8], to_client: &[u8]) {
     let answer = called.answer;
     let written = called.written;
     let session = called.session;
-    write_octet(number(answer));
+    write_octet(number_of(answer));
     write_number(low_half(called.taken));
     write_number(low_half(written.server));
     write_number(low_half(written.client));
@@ -157,18 +157,6 @@ fn offset(session: Session, direction: u8) -> u32 {
     match session::offset(session, direction) {
         DirectionOffset::Is(n) => n,
         DirectionOffset::UnknownDirection => 0,
-    }
-}
-
-fn number(answer: Answer) -> u8 {
-    match answer {
-        Answer::Done => 0,
-        Answer::QueueFull => 1,
-        Answer::NoRoom => 2,
-        Answer::UnknownDirection => 3,
-        Answer::BadRecord => 4,
-        Answer::BadSetup => 5,
-        Answer::DirectionEnded => 6,
     }
 }
 

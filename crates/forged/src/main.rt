@@ -5,8 +5,8 @@
 // is untouched), and of the record: the replies owed, the octets held of either direction, and the octets taken from either side.
 use effects::Direction;
 use effects::Place;
+use kinds::number_of;
 use libc::STDOUT_FILENO;
-use rules::Answer;
 use session::Called;
 use session::Control;
 use session::Session;
@@ -106,7 +106,7 @@ fn try_call(session: Session, direction: u8) {
 fn print(called: Called, to_server: &[u8], to_client: &[u8]) {
     let answer = called.answer;
     let written = called.written;
-    print_number(number(answer) as usize);
+    print_number(number_of(answer) as usize);
     print_number(called.taken);
     print_number(written.server);
     print_number(written.client);
@@ -144,16 +144,4 @@ fn print_record(session: Session) {
 fn print_number(n: usize) {
     io::print_decimal(STDOUT_FILENO, n as u64);
     io::write_all(STDOUT_FILENO, b" ");
-}
-
-fn number(answer: Answer) -> u8 {
-    match answer {
-        Answer::Done => 0,
-        Answer::QueueFull => 1,
-        Answer::NoRoom => 2,
-        Answer::UnknownDirection => 3,
-        Answer::BadRecord => 4,
-        Answer::BadSetup => 5,
-        Answer::DirectionEnded => 6,
-    }
 }

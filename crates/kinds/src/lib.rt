@@ -1,6 +1,8 @@
-// The kinds of replies owed as numbers of the record.
+// The kinds of replies owed as numbers of the record, and the answers as numbers of document 01.
 ghost use mathlib.Core.Path.{_≡_};
+ghost use Rattle.rules.specs.Answers.{answerNumber};
 ghost use Rattle.kinds.specs.Kinds.{answerCode, codeOf, stateKind, kindOf};
+use rules::Answer;
 use rules::Kind;
 use rules::OwnAnswer;
 use rules::Switches;
@@ -60,4 +62,19 @@ fn state_kind(epsv: bool, eprt: bool) -> Kind
     ensures { λ r. ⌜ r ≡ stateKind epsv eprt ⌝ }
 {
     Kind::Own(OwnAnswer::State(Switches { epsv, eprt }))
+}
+
+// The number of an answer, for hosts and reports, which tell numbers.
+pub fn number_of(answer: Answer) -> u8
+    ensures { λ r. ⌜ r ≡ answerNumber answer ⌝ }
+{
+    match answer {
+        Answer::Done => 0,
+        Answer::QueueFull => 1,
+        Answer::NoRoom => 2,
+        Answer::UnknownDirection => 3,
+        Answer::BadRecord => 4,
+        Answer::BadSetup => 5,
+        Answer::DirectionEnded => 6,
+    }
 }

@@ -142,7 +142,8 @@ fn start(
     }
 }
 
-fn refused_setup() -> Prepared
+// What a setup returns that is refused: a record that is not live, and otherwise zero.
+pub fn refused_setup() -> Prepared
     ensures { λ r. ⌜ r ≡ record { answer = Answer.BadSetup; session = deadSession } ⌝ }
 {
     let off = Switches {
