@@ -1,3 +1,4 @@
 -- Laws that the proofs of this crate's functions cite.
 pub mod Copies
-pub mod Exchanges
+pub mod Calls
+pub mod Carrying

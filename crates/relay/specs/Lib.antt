@@ -1,2 +1,3 @@
--- What one exchange with a fresh session comes to for a host in C.
-pub mod First
+-- What the calls of a host in C do, and that its memory carries the record from call to call.
+pub mod Host
+pub mod Carried

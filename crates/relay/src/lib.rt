@@ -1,139 +1,145 @@
-// One exchange with a fresh session, for a host in C: a setup and one arrival, over numbers and slices.
+// The session for a host in C: setup, arrival, end and offset over numbers and slices, with the record as an image in memory that the host lends.
+// relay/fashlemor.h declares them.
 ghost use mathlib.Core.Path.{_≡_};
-ghost use lib.ListN.{length};
 ghost use Rattle.rules.specs.Answers.{answerNumber};
-ghost use Rattle.relay.specs.First.{First, first as firstBy, told, serverAfter, clientAfter, countsAfter};
-use output::put;
+ghost use Rattle.output.specs.Buffer.{placed};
+ghost use Rattle.session.specs.Calls.{offset as offsetIn};
+ghost use Rattle.image.specs.Image.{imageOf, sessionOf};
+ghost use Rattle.relay.specs.Host.{preparedFrom, setupNumber, arrivedAt, endedAt, imageAfter, serverAfter, clientAfter, countsAfter, offsetNumber, offsetAfter};
+use image::four;
+use image::put_image;
+use image::read_image;
+use image::sixteen;
+use kinds::number_of;
 use rules::Answer;
+use session::Called;
+use session::DirectionOffset;
+use session::Prepared;
 use session::arrive;
+use session::end;
+use session::offset;
+use session::refused_setup;
 use session::setup;
 
-// What C is told of an exchange: the answer's number, the octets taken, and those written to each side.
-pub struct Told {
-    pub number: u8,
-    pub taken: usize,
-    pub server: usize,
-    pub client: usize,
+// Writes the record of a fresh session, or the record of a setup that is refused.
+#[no_mangle]
+pub extern "C" fn fashlemor_setup(image: &mut [u8], client: &[u8], mapped: &[u8], flags: u8) -> u8
+    ensures { λ r. ⌜ r ≡ setupNumber (now (image .entry)) (preparedFrom (now (client .entry)) (now (mapped .entry)) flags) ⌝ }
+    ensures { λ r. ⌜ now (image .exit) ≡ placed (now (image .entry)) 0 (imageOf (preparedFrom (now (client .entry)) (now (mapped .entry)) flags .session)) ⌝ }
+{
+    let room = image.len();
+    let p = prepare(client, mapped, flags);
+    let answer = p.answer;
+    let session = p.session;
+    put_image(image, session);
+    if room < image::SIZE {
+        return number_of(Answer::BadSetup);
+    }
+    number_of(answer)
 }
 
-// Sets a session up and hands it one arrival. `counts` gets the octets taken, written to the server and written to the client, if it has room for three.
+// A setup on slices, whose lengths may be wrong.
+fn prepare(client: &[u8], mapped: &[u8], flags: u8) -> Prepared
+    ensures { λ r. ⌜ r ≡ preparedFrom (now (client .entry)) (now (mapped .entry)) flags ⌝ }
+{
+    if client.len() != 16 {
+        return refused_setup();
+    }
+    if mapped.len() != 4 {
+        return refused_setup();
+    }
+    setup(sixteen(client), four(mapped), flags)
+}
+
+// Octets of a direction arrive; what they give goes into the two buffers.
 #[no_mangle]
-pub extern "C" fn fashlemor_first_arrival(
-    client: &[u8],
-    mapped: &[u8],
-    flags: u8,
+pub extern "C" fn fashlemor_arrive(
+    image: &mut [u8],
     direction: u8,
     octets: &[u8],
     to_server: &mut [u8],
     to_client: &mut [u8],
     counts: &mut [usize],
 ) -> u8
-    ensures { λ r. ⌜ r ≡ told (firstBy (now (client .entry)) (now (mapped .entry)) flags direction (now (octets .entry)) (length (now («to_server» .entry))) (length (now («to_client» .entry)))) .number ⌝ }
-    ensures { λ r. ⌜ now («to_server» .exit) ≡ serverAfter (firstBy (now (client .entry)) (now (mapped .entry)) flags direction (now (octets .entry)) (length (now («to_server» .entry))) (length (now («to_client» .entry)))) (now («to_server» .entry)) ⌝ }
-    ensures { λ r. ⌜ now («to_client» .exit) ≡ clientAfter (firstBy (now (client .entry)) (now (mapped .entry)) flags direction (now (octets .entry)) (length (now («to_server» .entry))) (length (now («to_client» .entry)))) (now («to_client» .entry)) ⌝ }
-    ensures { λ r. ⌜ now (counts .exit) ≡ countsAfter (told (firstBy (now (client .entry)) (now (mapped .entry)) flags direction (now (octets .entry)) (length (now («to_server» .entry))) (length (now («to_client» .entry))))) (now (counts .entry)) ⌝ }
+    ensures { λ r. ⌜ r ≡ answerNumber (arrivedAt (now (image .entry)) direction (now (octets .entry)) (now («to_server» .entry)) (now («to_client» .entry)) .called .answer) ⌝ }
+    ensures { λ r. ⌜ now (image .exit) ≡ imageAfter (now (image .entry)) (arrivedAt (now (image .entry)) direction (now (octets .entry)) (now («to_server» .entry)) (now («to_client» .entry)) .called) ⌝ }
+    ensures { λ r. ⌜ now («to_server» .exit) ≡ serverAfter (arrivedAt (now (image .entry)) direction (now (octets .entry)) (now («to_server» .entry)) (now («to_client» .entry))) (now («to_server» .entry)) ⌝ }
+    ensures { λ r. ⌜ now («to_client» .exit) ≡ clientAfter (arrivedAt (now (image .entry)) direction (now (octets .entry)) (now («to_server» .entry)) (now («to_client» .entry))) (now («to_client» .entry)) ⌝ }
+    ensures { λ r. ⌜ now (counts .exit) ≡ countsAfter (arrivedAt (now (image .entry)) direction (now (octets .entry)) (now («to_server» .entry)) (now («to_client» .entry)) .called) (now (counts .entry)) ⌝ }
 {
-    let t = first(
-        client,
-        mapped,
-        flags,
-        direction,
-        octets,
-        to_server,
-        to_client,
-    );
-    put_counts(counts, t);
-    t.number
+    let session = read_image(image);
+    let called = arrive(session, direction, octets, to_server, to_client);
+    put_counts(counts, called);
+    keep(image, called)
 }
 
-fn first(
-    client: &[u8],
-    mapped: &[u8],
-    flags: u8,
+// A direction ends: its held octets go into its buffer.
+#[no_mangle]
+pub extern "C" fn fashlemor_end(
+    image: &mut [u8],
     direction: u8,
-    octets: &[u8],
     to_server: &mut [u8],
     to_client: &mut [u8],
-) -> Told
-    ensures { λ r. ⌜ r ≡ told (firstBy (now (client .entry)) (now (mapped .entry)) flags direction (now (octets .entry)) (length (now («to_server» .entry))) (length (now («to_client» .entry)))) ⌝ }
-    ensures { λ r. ⌜ now («to_server» .exit) ≡ serverAfter (firstBy (now (client .entry)) (now (mapped .entry)) flags direction (now (octets .entry)) (length (now («to_server» .entry))) (length (now («to_client» .entry)))) (now («to_server» .entry)) ⌝ }
-    ensures { λ r. ⌜ now («to_client» .exit) ≡ clientAfter (firstBy (now (client .entry)) (now (mapped .entry)) flags direction (now (octets .entry)) (length (now («to_server» .entry))) (length (now («to_client» .entry)))) (now («to_client» .entry)) ⌝ }
+    counts: &mut [usize],
+) -> u8
+    ensures { λ r. ⌜ r ≡ answerNumber (endedAt (now (image .entry)) direction (now («to_server» .entry)) (now («to_client» .entry)) .called .answer) ⌝ }
+    ensures { λ r. ⌜ now (image .exit) ≡ imageAfter (now (image .entry)) (endedAt (now (image .entry)) direction (now («to_server» .entry)) (now («to_client» .entry)) .called) ⌝ }
+    ensures { λ r. ⌜ now («to_server» .exit) ≡ serverAfter (endedAt (now (image .entry)) direction (now («to_server» .entry)) (now («to_client» .entry))) (now («to_server» .entry)) ⌝ }
+    ensures { λ r. ⌜ now («to_client» .exit) ≡ clientAfter (endedAt (now (image .entry)) direction (now («to_server» .entry)) (now («to_client» .entry))) (now («to_client» .entry)) ⌝ }
+    ensures { λ r. ⌜ now (counts .exit) ≡ countsAfter (endedAt (now (image .entry)) direction (now («to_server» .entry)) (now («to_client» .entry)) .called) (now (counts .entry)) ⌝ }
 {
-    if client.len() != 16 {
-        return refused(number(Answer::BadSetup));
-    }
-    if mapped.len() != 4 {
-        return refused(number(Answer::BadSetup));
-    }
-    let p = setup(sixteen(client), four(mapped), flags);
-    let prepared = p.answer;
-    let n = number(prepared);
-    if n != 0 {
-        return refused(n);
-    }
-    let session = p.session;
-    let called = arrive(session, direction, octets, to_server, to_client);
+    let session = read_image(image);
+    let called = end(session, direction, to_server, to_client);
+    put_counts(counts, called);
+    keep(image, called)
+}
+
+// Writes the record back unless the call was refused, and tells the answer's number.
+fn keep(image: &mut [u8], called: Called) -> u8
+    ensures { λ r. ⌜ r ≡ answerNumber (called .answer) ⌝ }
+    ensures { λ r. ⌜ now (image .exit) ≡ imageAfter (now (image .entry)) called ⌝ }
+{
     let answer = called.answer;
-    let written = called.written;
-    Told {
-        number: number(answer),
-        taken: called.taken,
-        server: written.server,
-        client: written.client,
+    let number = number_of(answer);
+    if 3 <= number {
+        return number;
     }
+    let session = called.session;
+    put_image(image, session);
+    number
 }
 
-fn sixteen(octets: &[u8]) -> [u8; 16]
-    requires { ⌜ length (now octets) ≡ 16 ⌝ }
-    ensures { λ r. ⌜ r ≡ now (octets .entry) ⌝ }
-{
-    let mut out = [0u8; 16];
-    put(&mut out, 0, octets);
-    out
-}
-
-fn four(octets: &[u8]) -> [u8; 4]
-    requires { ⌜ length (now octets) ≡ 4 ⌝ }
-    ensures { λ r. ⌜ r ≡ now (octets .entry) ⌝ }
-{
-    let mut out = [0u8; 4];
-    put(&mut out, 0, octets);
-    out
-}
-
-// A setup that is refused: nothing is taken and nothing written.
-fn refused(number: u8) -> Told
-    ensures { λ r. ⌜ r ≡ told (First.refusedBy number) ⌝ }
-{
-    Told {
-        number,
-        taken: 0,
-        server: 0,
-        client: 0,
-    }
-}
-
-fn number(answer: Answer) -> u8
-    ensures { λ r. ⌜ r ≡ answerNumber answer ⌝ }
-{
-    match answer {
-        Answer::Done => 0,
-        Answer::QueueFull => 1,
-        Answer::NoRoom => 2,
-        Answer::UnknownDirection => 3,
-        Answer::BadRecord => 4,
-        Answer::BadSetup => 5,
-        Answer::DirectionEnded => 6,
-    }
-}
-
-fn put_counts(counts: &mut [usize], t: Told)
-    ensures { λ _. ⌜ now (counts .exit) ≡ countsAfter t (now (counts .entry)) ⌝ }
+// Octets taken, written to the server and written to the client, if there is room for three numbers.
+fn put_counts(counts: &mut [usize], called: Called)
+    ensures { λ _. ⌜ now (counts .exit) ≡ countsAfter called (now (counts .entry)) ⌝ }
 {
     if counts.len() < 3 {
         return;
     }
-    counts[0] = t.taken;
-    counts[1] = t.server;
-    counts[2] = t.client;
+    let written = called.written;
+    counts[0] = called.taken;
+    counts[1] = written.server;
+    counts[2] = written.client;
+}
+
+// The offset of a direction, if there is room for a number.
+#[no_mangle]
+pub extern "C" fn fashlemor_offset(image: &[u8], direction: u8, out: &mut [u32]) -> u8
+    ensures { λ r. ⌜ r ≡ offsetNumber (offsetIn (sessionOf (now (image .entry))) direction) ⌝ }
+    ensures { λ r. ⌜ now (out .exit) ≡ offsetAfter (offsetIn (sessionOf (now (image .entry))) direction) (now (out .entry)) ⌝ }
+{
+    let session = read_image(image);
+    let DirectionOffset::Is(n) = offset(session, direction) else {
+        return number_of(Answer::UnknownDirection);
+    };
+    put_offset(out, n);
+    number_of(Answer::Done)
+}
+
+fn put_offset(out: &mut [u32], n: u32)
+    ensures { λ _. ⌜ now (out .exit) ≡ offsetAfter (DirectionOffset.Is n) (now (out .entry)) ⌝ }
+{
+    if 0 < out.len() {
+        out[0] = n;
+    }
 }

@@ -102,13 +102,17 @@ sound-parts live owed k c s h =
     let l = and-both live few (and-both (live && few) k (b .0) .0) in
     (leb-true owed 16 (l .1), b .1, a .1)
 
-pub countable : (s : Session) (d : ℕ) → refusalOf s d ≡ none → Countable s
-unfolding refusalOf sound soundDirection
-countable s d h =
+pub sound-countable : (s : Session) → sound s ≡ true → Countable s
+unfolding sound soundDirection
+sound-countable s h =
     let k = s .control in
-    let p = sound-parts _ _ _ _ _ (not-bad d _ _ h) in
+    let p = sound-parts _ _ _ _ _ h in
     record {
       owed = p .0;
       command = place-holds (k .client .place) (k .client .held) (p .1);
       reply = place-holds (k .server .place) (k .server .held) (p .2);
     }
+
+pub countable : (s : Session) (d : ℕ) → refusalOf s d ≡ none → Countable s
+unfolding refusalOf
+countable s d h = sound-countable s (not-bad d _ _ h)

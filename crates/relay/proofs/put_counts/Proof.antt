@@ -1,11 +1,10 @@
 -- `relay::put_counts`: three stores, where there is room for them.
-use mathlib.Core.Path.{sym}
 use native.Mathlib.Omega.{arith}
 use lib.ListN.{length-set}
 use borrow.Author.Tests.{le-leb, lt-leb}
 use borrow.Author.Needs.{needs}
 use Rattle.rules.specs.Octets.{choose}
-use Rattle.relay.specs.First.{countsAfter}
+use Rattle.relay.specs.Host.{countsAfter}
 use Rattle.relay.proofs.Copies.{three-stored}
 use Rattle.relay.proofs.put_counts.Statement.{statement}
 use Rattle.relay.proofs.put_counts.Tie as tie
@@ -28,7 +27,10 @@ same-length c = search needs
 
 returns-2 : tie.Need-returns-2
 unfolding countsAfter choose
-returns-2 c = rw (le-leb 3 _ (c .if1 .left)) (three-stored (c .before .args .counts .now) (c .before .args .t .taken) (c .before .args .t .server) (c .before .args .t .client) (c .if1 .left))
+returns-2 c =
+    let a = c .before .before .args in
+    let k = a .called in
+    rw (le-leb 3 _ (c .before .if1 .left)) (three-stored (a .counts .now) (k .taken) (k .written .server) (k .written .client) (c .before .if1 .left))
 
 pub put-counts-spec : {M : Type 1} → statement M
 put-counts-spec =

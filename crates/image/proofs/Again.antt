@@ -1,0 +1,143 @@
+-- An image that is read and written again is the same octets.
+use mathlib.Core.Path.{_≡_, refl, ap, sym, _∙_}
+use mathlib.Core.Bool.{true, _&&_}
+use mathlib.Core.List.{List, [], _∷_, _++_}
+use Prim.Native.Nat.{ℕ, zero, suc, _+_, _*_, _/_, _%_, _^_, _≤_, _<_}
+use native.Mathlib.Omega.{arith}
+use lib.Dec.{leb, eqb}
+use lib.ListN.{length, getD, take, drop}
+use lib.Seq.{drop-cons, drop-drop, take-add}
+use borrow.Author.Tests.{leb-true}
+use Rattle.rules.specs.Octets.{choose, every}
+use Rattle.octets.proofs.Ranges.{and-both}
+use Rattle.image.specs.Image.{
+  imageSize,
+  bit,
+  placeNumber,
+  fourOctets,
+  capped,
+  marksOf,
+  numbersOf,
+  arraysOf,
+  imageOf,
+  placeOf,
+  numberAt,
+  part,
+  countsAt,
+  controlIn,
+  fieldsIn,
+  atMost,
+  isImage,
+  sessionOf,
+  WrittenSame,
+}
+use Rattle.image.proofs.Back.{capped-same}
+
+-- ---- one value
+
+octet-bit : (n : ℕ) → leb n 1 ≡ true → bit (eqb n 1) ≡ n
+unfolding bit
+octet-bit zero e = refl
+octet-bit (suc zero) e = refl
+octet-bit (suc (suc n)) e = absurd (omega (arith, leb-true (suc (suc n)) 1 e))
+
+octet-place : (n : ℕ) → leb n 3 ≡ true → placeNumber (placeOf n) ≡ n
+unfolding placeNumber placeOf
+octet-place zero e = refl
+octet-place (suc zero) e = refl
+octet-place (suc (suc zero)) e = refl
+octet-place (suc (suc (suc zero))) e = refl
+octet-place (suc (suc (suc (suc n)))) e = absurd (omega (arith, leb-true (suc (suc (suc (suc n)))) 3 e))
+
+four-list : (n : ℕ) {a b c d : ℕ} → n / 256 / 256 / 256 % 256 ≡ a → n / 256 / 256 % 256 ≡ b → n / 256 % 256 ≡ c → n % 256 ≡ d
+    → fourOctets n ≡ a ∷ b ∷ c ∷ d ∷ []
+unfolding fourOctets
+four-list n p q r s = rw (p, q, r, s)
+
+four-same : (a b c d n : ℕ) → a < 256 → b < 256 → c < 256 → d < 256 → n ≡ ((a * 256 + b) * 256 + c) * 256 + d
+    → fourOctets n ≡ a ∷ b ∷ c ∷ d ∷ []
+four-same a b c d n ha hb hc hd e = four-list n (omega arith) (omega arith) (omega arith) (omega arith)
+
+-- ---- the marks
+
+marks-same : (image : List ℕ) → 7 ≤ length image → atMost 1 (part image 0 5) ≡ true → atMost 3 (part image 5 2) ≡ true
+    → marksOf (fieldsIn image) ≡ part image 0 7
+unfolding atMost every marksOf fieldsIn controlIn
+marks-same (a ∷ b ∷ c ∷ d ∷ e ∷ f ∷ g ∷ rest) h m p =
+    let m1 = and-both (leb a 1) (leb b 1 && (leb c 1 && (leb d 1 && (leb e 1 && true)))) m in
+    let m2 = and-both (leb b 1) (leb c 1 && (leb d 1 && (leb e 1 && true))) (m1 .1) in
+    let m3 = and-both (leb c 1) (leb d 1 && (leb e 1 && true)) (m2 .1) in
+    let m4 = and-both (leb d 1) (leb e 1 && true) (m3 .1) in
+    let m5 = and-both (leb e 1) true (m4 .1) in
+    let p1 = and-both (leb f 3) (leb g 3 && true) p in
+    let p2 = and-both (leb g 3) true (p1 .1) in
+    rw (octet-bit a (m1 .0), octet-bit b (m2 .0), octet-bit c (m3 .0), octet-bit d (m4 .0), octet-bit e (m5 .0), octet-place f (p1 .0), octet-place g (p2 .0))
+marks-same [] h m p = absurd (omega arith)
+marks-same (_ ∷ []) h m p = absurd (omega arith)
+marks-same (_ ∷ _ ∷ []) h m p = absurd (omega arith)
+marks-same (_ ∷ _ ∷ _ ∷ []) h m p = absurd (omega arith)
+marks-same (_ ∷ _ ∷ _ ∷ _ ∷ []) h m p = absurd (omega arith)
+marks-same (_ ∷ _ ∷ _ ∷ _ ∷ _ ∷ []) h m p = absurd (omega arith)
+marks-same (_ ∷ _ ∷ _ ∷ _ ∷ _ ∷ _ ∷ []) h m p = absurd (omega arith)
+
+-- ---- the numbers and the arrays
+
+-- two parts, one behind the other
+adjoined : (image : List ℕ) (i n m : ℕ) → part image i n ++ part image (i + n) m ≡ part image i (n + m)
+adjoined image i n m = rw (take-add n m (drop i image), drop-drop n i image)
+
+module _ (image : List ℕ) (long : imageSize ≤ length image) (octets : (i : ℕ) → getD image i 0 < 256) where
+  part-four : (i : ℕ) → suc (suc (suc i)) < length image
+      → part image i 4 ≡ getD image i 0 ∷ getD image (suc i) 0 ∷ getD image (suc (suc i)) 0 ∷ getD image (suc (suc (suc i))) 0 ∷ []
+  part-four i h =
+      rw (drop-cons image i 0 (omega arith), drop-cons image (suc i) 0 (omega arith), drop-cons image (suc (suc i)) 0 (omega arith), drop-cons image (suc (suc (suc i))) 0 h)
+
+  number-value : (i : ℕ)
+      → numberAt image i
+      ≡ ((getD image i 0 * 256 + getD image (suc i) 0) * 256 + getD image (suc (suc i)) 0) * 256 + getD image (suc (suc (suc i))) 0
+  unfolding numberAt
+  number-value i =
+      let one : i + 1 ≡ suc i = omega arith in
+      let two : i + 2 ≡ suc (suc i) = omega arith in
+      let three : i + 3 ≡ suc (suc (suc i)) = omega arith in
+      rw (one, two, three)
+
+  number-same : (i : ℕ) → suc (suc (suc i)) < length image → fourOctets (numberAt image i) ≡ part image i 4
+  number-same i h =
+      four-same _ _ _ _ (numberAt image i) (octets i) (octets (suc i)) (octets (suc (suc i))) (octets (suc (suc (suc i)))) (number-value i) ∙ sym (part-four i h)
+
+  number-low : (i : ℕ) → numberAt image i < 2 ^ 32
+  number-low i = omega (arith, number-value i, octets i, octets (suc i), octets (suc (suc i)), octets (suc (suc (suc i))))
+
+  count-same : (i : ℕ) → suc (suc (suc i)) < length image → fourOctets (capped (numberAt image i)) ≡ part image i 4
+  count-same i h = ap fourOctets (capped-same (numberAt image i) (number-low i)) ∙ number-same i h
+
+  numbers-same : numbersOf (fieldsIn image) ≡ part image 7 28
+  unfolding numbersOf fieldsIn controlIn countsAt
+  numbers-same =
+      rw (count-same 7 (omega arith), count-same 11 (omega arith), count-same 15 (omega arith), number-same 19 (omega arith), number-same 23 (omega arith), number-same 27 (omega arith), number-same 31 (omega arith))
+      (rw (adjoined image 27 4 4, adjoined image 23 4 8, adjoined image 19 4 12, adjoined image 15 4 16, adjoined image 11 4 20, adjoined image 7 4 24))
+
+  arrays-same : arraysOf (fieldsIn image) ≡ part image 35 1058
+  unfolding arraysOf fieldsIn
+  arrays-same = rw (adjoined image 71 511 511, adjoined image 55 16 1022, adjoined image 51 4 1038, adjoined image 35 16 1042)
+
+  image-same : atMost 1 (part image 0 5) ≡ true → atMost 3 (part image 5 2) ≡ true → imageOf (fieldsIn image) ≡ take imageSize image
+  unfolding imageOf
+  image-same m p = rw (marks-same image (omega arith) m p, numbers-same, arrays-same, adjoined image 7 28 1058) (adjoined image 0 7 1086)
+
+-- the three tests of an image
+tests : (image : List ℕ) → isImage image ≡ true
+    → (imageSize ≤ length image) × (atMost 1 (part image 0 5) ≡ true) × (atMost 3 (part image 5 2) ≡ true)
+unfolding isImage
+tests image ok =
+    let marked = and-both (leb imageSize (length image) && atMost 1 (part image 0 5)) (atMost 3 (part image 5 2)) ok in
+    let long = and-both (leb imageSize (length image)) (atMost 1 (part image 0 5)) (marked .0) in
+    (leb-true imageSize (length image) (long .0), long .1, marked .1)
+
+pub image-long : (image : List ℕ) → isImage image ≡ true → imageSize ≤ length image
+image-long image ok = tests image ok .0
+
+pub written-same : WrittenSame
+unfolding sessionOf choose
+written-same image ok octets = let t = tests image ok in rw ok (image-same image (t .0) octets (t .1) (t .2))

@@ -1,0 +1,197 @@
+-- A record is read back from its image.
+use mathlib.Core.Path.{_≡_, refl}
+use mathlib.Core.Bool.{Bool, true, false}
+use mathlib.Core.List.{List, [], _++_, append-assoc}
+use Prim.Native.Nat.{ℕ, _+_, _-_, _*_, _/_, _%_, _^_, _<_}
+use native.Mathlib.Omega.{arith}
+use lib.Dec.{leb, eqb}
+use lib.ListN.{length, take, drop, length-append, length-replicate}
+use lib.Seq.{take-at, drop-at}
+use borrow.Author.Tests.{le-leb}
+use Rattle.rules.specs.Octets.{choose, every}
+use Rattle.rules.specs.Lines.{judged}
+use Rattle.rules.specs.Answers.{mostOwed}
+use Rattle.effects.specs.declared.Place.{Place}
+use Rattle.session.specs.declared.Session.{Session}
+use Rattle.session.specs.Calls.{deadSession}
+use Rattle.session.proofs.Refusals.{sound-countable}
+use Rattle.image.specs.Image.{
+  imageSize,
+  bit,
+  placeNumber,
+  fourOctets,
+  capped,
+  marksOf,
+  numbersOf,
+  arraysOf,
+  imageOf,
+  placeOf,
+  numberAt,
+  isSet,
+  part,
+  countsAt,
+  controlIn,
+  fieldsIn,
+  atMost,
+  isImage,
+  sessionOf,
+  Sized,
+  Wrapped,
+  ReadBack,
+  DeadBack,
+  DeadZero,
+}
+use Rattle.image.proofs.Writing.{image-length}
+
+-- ---- one value
+
+bit-most : (b : Bool) → leb (bit b) 1 ≡ true
+unfolding bit
+bit-most false = refl
+bit-most true = refl
+
+bit-set : (b : Bool) → eqb (bit b) 1 ≡ b
+unfolding bit
+bit-set false = refl
+bit-set true = refl
+
+place-most : (p : Place) → leb (placeNumber p) 3 ≡ true
+unfolding placeNumber
+place-most Place.Holding = refl
+place-most Place.Flowing = refl
+place-most Place.Passing = refl
+place-most Place.Ended = refl
+
+place-back : (p : Place) → placeOf (placeNumber p) ≡ p
+unfolding placeNumber placeOf
+place-back Place.Holding = refl
+place-back Place.Flowing = refl
+place-back Place.Passing = refl
+place-back Place.Ended = refl
+
+four-back : (n : ℕ) → n < 2 ^ 32
+    → ((n / 256 / 256 / 256 % 256 * 256 + n / 256 / 256 % 256) * 256 + n / 256 % 256) * 256 + n % 256 ≡ n
+four-back n h = omega arith
+
+pub capped-same : (n : ℕ) → n < 2 ^ 32 → capped n ≡ n
+unfolding capped choose
+capped-same n h = rw (le-leb n (2 ^ 32 - 1) (omega arith))
+
+capped-back : (n : ℕ) → n < 2 ^ 32
+    → ((capped n / 256 / 256 / 256 % 256 * 256 + capped n / 256 / 256 % 256) * 256 + capped n / 256 % 256) * 256 + capped n % 256 ≡ n
+capped-back n h = rw (capped-same n h) (four-back n h)
+
+-- the part of n octets behind i others
+middle : (a x b : List ℕ) (i n : ℕ) → length a ≡ i → length x ≡ n → take n (drop i (a ++ (x ++ b))) ≡ x
+middle a x b i n e f = rw (drop-at a (x ++ b) i e) (take-at x b n f)
+
+-- ---- the whole image, and octets behind it
+
+module _ (s : Session) (rest : List ℕ) (h : Sized s) where
+  abbrev image : List ℕ
+  image = imageOf s ++ rest
+
+  enough : leb imageSize (length image) ≡ true
+  enough = le-leb imageSize (length image) (rw length-append (omega (arith, image-length s h)))
+
+  marks : atMost 1 (part image 0 5) ≡ true
+  unfolding imageOf marksOf atMost every
+  marks = rw (bit-most (s .live), bit-most (s .supported), bit-most (s .control .switches .epsv), bit-most (s .control .switches .eprt), bit-most (s .control .unfinished))
+
+  places : atMost 3 (part image 5 2) ≡ true
+  unfolding imageOf marksOf atMost every
+  places = rw (place-most (s .control .client .place), place-most (s .control .server .place))
+
+  pub image-is : isImage image ≡ true
+  unfolding isImage
+  image-is = rw (enough, marks, places)
+
+  -- ---- the arrays, behind marks and numbers
+
+  array : (a x b : List ℕ) (i n : ℕ) → arraysOf s ++ rest ≡ a ++ (x ++ b) → length a ≡ i → length x ≡ n
+      → take n (drop i (arraysOf s ++ rest)) ≡ x
+  array a x b i n split e f = rw split (middle a x b i n e f)
+
+  client-back : part image 35 16 ≡ s .client
+  unfolding imageOf marksOf numbersOf fourOctets arraysOf
+  client-back = array [] (s .client) (s .mapped ++ (s .kinds ++ (s .command ++ (s .reply ++ rest)))) 0 16 (simp append-assoc) refl (h .client)
+
+  mapped-back : part image 51 4 ≡ s .mapped
+  unfolding imageOf marksOf numbersOf fourOctets arraysOf
+  mapped-back = array (s .client) (s .mapped) (s .kinds ++ (s .command ++ (s .reply ++ rest))) 16 4 (simp append-assoc) (h .client) (h .mapped)
+
+  kinds-back : part image 55 16 ≡ s .kinds
+  unfolding imageOf marksOf numbersOf fourOctets arraysOf
+  kinds-back =
+      array (s .client ++ s .mapped) (s .kinds) (s .command ++ (s .reply ++ rest)) 20 16 (simp append-assoc) (rw length-append (omega (arith, h .client, h .mapped)))
+      (h .kinds)
+
+  command-back : part image 71 511 ≡ s .command
+  unfolding imageOf marksOf numbersOf fourOctets arraysOf
+  command-back =
+      array (s .client ++ (s .mapped ++ s .kinds)) (s .command) (s .reply ++ rest) 36 511 (simp append-assoc) (simp length-append (omega (arith, h .client, h .mapped, h .kinds)))
+      (h .command)
+
+  reply-back : part image 582 511 ≡ s .reply
+  unfolding imageOf marksOf numbersOf fourOctets arraysOf
+  reply-back =
+      array (s .client ++ (s .mapped ++ (s .kinds ++ s .command))) (s .reply) rest 547 511 (simp append-assoc)
+      (simp length-append (omega (arith, h .client, h .mapped, h .kinds, h .command)))
+      (h .reply)
+
+  -- ---- the marks and the numbers
+
+  -- counts that fit in 32 bits
+  module _ (owed : s .control .owed < 2 ^ 32) (command : s .control .client .held < 2 ^ 32) (reply : s .control .server .held < 2 ^ 32) where
+    control-back : controlIn image ≡ s .control
+    unfolding controlIn numberAt imageOf marksOf numbersOf fourOctets
+    control-back =
+        let c = s .control in
+        rw (bit-set (c .switches .epsv), bit-set (c .switches .eprt), bit-set (c .unfinished), place-back (c .client .place), place-back (c .server .place), capped-back (c .owed) owed, capped-back (c .client .held) command, capped-back (c .server .held) reply)
+
+    up-back : Wrapped (s .up) → countsAt image 19 ≡ s .up
+    unfolding countsAt numberAt imageOf marksOf numbersOf fourOctets
+    up-back w = rw (four-back (s .up .taken) (w .taken), four-back (s .up .written) (w .written))
+
+    down-back : Wrapped (s .down) → countsAt image 27 ≡ s .down
+    unfolding countsAt numberAt imageOf marksOf numbersOf fourOctets
+    down-back w = rw (four-back (s .down .taken) (w .taken), four-back (s .down .written) (w .written))
+
+    live-back : isSet image 0 ≡ s .live
+    unfolding imageOf marksOf
+    live-back = bit-set (s .live)
+
+    supported-back : isSet image 1 ≡ s .supported
+    unfolding imageOf marksOf
+    supported-back = bit-set (s .supported)
+
+    pub fields-back : Wrapped (s .up) → Wrapped (s .down) → sessionOf image ≡ s
+    unfolding sessionOf choose fieldsIn
+    fields-back u d =
+        rw (image-is, live-back, supported-back, client-back, mapped-back, kinds-back, command-back, reply-back, control-back, up-back u, down-back d)
+
+pub read-back : ReadBack
+read-back s rest h up down ok =
+    let k = sound-countable s ok in
+    fields-back s rest h (omega (arith, k .owed)) (omega (arith, k .command)) (omega (arith, k .reply)) up down
+
+pub dead-sized : Sized deadSession
+unfolding deadSession judged mostOwed
+dead-sized =
+    record {
+      client = length-replicate {A = ℕ} 16 0;
+      mapped = length-replicate {A = ℕ} 4 0;
+      kinds = length-replicate {A = ℕ} 16 0;
+      command = length-replicate {A = ℕ} 511 0;
+      reply = length-replicate {A = ℕ} 511 0;
+    }
+
+pub dead-back : DeadBack
+unfolding deadSession
+dead-back rest =
+    let none : Wrapped (deadSession .up) = record { taken = omega arith; written = omega arith } in
+    fields-back deadSession rest dead-sized (omega arith) (omega arith) (omega arith) none none
+
+pub dead-zero : DeadZero
+unfolding deadSession judged mostOwed imageOf marksOf numbersOf arraysOf fourOctets capped choose bit placeNumber
+dead-zero = refl

@@ -1,0 +1,5 @@
+-- Laws of images: how one is written, how it is read, and that it is read back.
+pub mod Writing
+pub mod Reading
+pub mod Back
+pub mod Again

@@ -1,0 +1,24 @@
+-- The parts of an image written one after another, and their length.
+use mathlib.Core.Path.{_≡_}
+use mathlib.Core.List.{List, _++_}
+use Prim.Native.Nat.{ℕ}
+use native.Mathlib.Omega.{arith}
+use lib.ListN.{length, length-append}
+use Rattle.output.specs.Buffer.{PlacedInRoom}
+use Rattle.output.proofs.Placing.{Wrote, joined}
+use Rattle.session.specs.declared.Session.{Session}
+use Rattle.image.specs.Image.{Sized, imageSize, fourOctets, marksOf, numbersOf, arraysOf, imageOf}
+
+-- a part that was put, and those behind it
+pub andThen : (out : List ℕ) (at : ℕ) (a b : List ℕ) {after last : List ℕ} {next end : ℕ} → Wrote out at a next after
+    → PlacedInRoom after next b end last → PlacedInRoom out at (a ++ b) end last
+andThen out at a b one rest = joined out at a b (λ room. one) rest
+
+pub arrays-length : (s : Session) → Sized s → length (arraysOf s) ≡ 1058
+unfolding arraysOf
+arrays-length s h =
+    simp length-append (omega (arith, h .client, h .mapped, h .kinds, h .command, h .reply))
+
+pub image-length : (s : Session) → Sized s → length (imageOf s) ≡ imageSize
+unfolding imageOf marksOf numbersOf fourOctets
+image-length s h = omega (arith, arrays-length s h)

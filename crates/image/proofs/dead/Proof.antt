@@ -1,0 +1,15 @@
+-- `image::dead`: the record of a refused setup.
+use mathlib.Core.Path.{ap}
+use Rattle.session.specs.declared.Prepared.{Prepared}
+use borrow.Author.Needs.{needs}
+use Rattle.image.proofs.dead.Statement.{statement}
+use Rattle.image.proofs.dead.Tie as tie
+
+refused-setup-requires : tie.Need-refused-setup-requires
+refused-setup-requires c κs = search needs
+
+returns : tie.Need-returns
+returns c = ap (λ (p : Prepared). p .session) (c .before .refused-setup .ensures)
+
+pub dead-spec : {M : Type 1} → statement M
+dead-spec = tie.close (tie.spec refused-setup-requires returns)

@@ -1,0 +1,91 @@
+-- `image::put_arrays`: five arrays one after another.
+use mathlib.Core.Path.{_≡_, sym}
+use mathlib.Core.List.{_++_}
+use lib.ListN.{length}
+use Rattle.image.specs.Image.{arraysOf}
+use Rattle.image.proofs.Writing.{andThen}
+use borrow.Author.Needs.{needs}
+use Rattle.image.proofs.put_arrays.Statement.{statement}
+use Rattle.image.proofs.put_arrays.Tie as tie
+
+slice-aggregate-put : tie.Need-slice-aggregate-put
+slice-aggregate-put c = search needs
+
+put-requires : tie.Need-put-requires
+put-requires c κs = search needs
+
+slice-aggregate-put-2 : tie.Need-slice-aggregate-put-2
+slice-aggregate-put-2 c = search needs
+
+put-requires-2 : tie.Need-put-requires-2
+put-requires-2 c κs = search needs
+
+slice-aggregate-put-3 : tie.Need-slice-aggregate-put-3
+slice-aggregate-put-3 c =
+    let start = c .before .before .before .before .before .before .before .before .before .before .before .before .before .before .before .before .before .before in
+    let later = start .good .1 .1 .0 .1 .1 .1 .1 .1 in
+    let size : length (start .args .session .kinds) ≡ 16 = search needs in
+    sym size
+
+put-requires-3 : tie.Need-put-requires-3
+put-requires-3 c κs = search needs
+
+slice-aggregate-put-4 : tie.Need-slice-aggregate-put-4
+slice-aggregate-put-4 c =
+    let start = c .before .before .before .before .before .before .before .before .before .before .before .before .before .before .before .before .before .before .before .before .before .before .before in
+    let later = start .good .1 .1 .0 .1 .1 .1 .1 .1 in
+    let size : length (start .args .session .command) ≡ 511 = search needs in
+    sym size
+
+put-requires-4 : tie.Need-put-requires-4
+put-requires-4 c κs = search needs
+
+slice-aggregate-put-5 : tie.Need-slice-aggregate-put-5
+slice-aggregate-put-5 c =
+    let start = c .before .before .before .before .before .before .before .before .before .before .before .before .before .before .before .before .before .before .before .before .before .before .before .before .before .before .before .before in
+    let later = start .good .1 .1 .0 .1 .1 .1 .1 .1 in
+    let size : length (start .args .session .reply) ≡ 511 = search needs in
+    sym size
+
+put-requires-5 : tie.Need-put-requires-5
+put-requires-5 c κs = search needs
+
+same-length : tie.Need-same-length
+same-length c = search needs
+
+returns : tie.Need-returns
+unfolding arraysOf
+returns c =
+    let a = c .before .before .before .before .before .before .before .before .before .before .before .before .before .before .before .before .before .before .before .before .before .before .before .before .before .before .before .before .before .before .before .args in
+    let s = a .session in
+    let p1 = c .before .before .before .before .before .before .before .before .before .before .before .before .before .before .before .before .before .before .before .before .before .before .put in
+    let p2 = c .before .before .before .before .before .before .before .before .before .before .before .before .before .before .before .before .before .put2 in
+    let p3 = c .before .before .before .before .before .before .before .before .before .before .before .before .put3 in
+    let p4 = c .before .before .before .before .before .before .before .put4 in
+    let p5 = c .before .before .put5 in
+    let t5 = s .reply in
+    let t4 = s .command ++ t5 in
+    let t3 = s .kinds ++ t4 in
+    let t2 = s .mapped ++ t3 in
+    andThen (a .out .now) (a .at) (s .client) t2 (p1 .ensures)
+    (andThen (p1 .last .0) (p1 .result) (s .mapped) t3 (p2 .ensures)
+    (andThen (p2 .last .0) (p2 .result) (s .kinds) t4 (p3 .ensures)
+    (andThen (p3 .last .0) (p3 .result) (s .command) t5 (p4 .ensures)
+    (λ room. p5 .ensures))))
+
+pub put-arrays-spec : {M : Type 1} → statement M
+put-arrays-spec =
+    tie.close
+    (tie.spec
+    slice-aggregate-put
+    put-requires
+    slice-aggregate-put-2
+    put-requires-2
+    slice-aggregate-put-3
+    put-requires-3
+    slice-aggregate-put-4
+    put-requires-4
+    slice-aggregate-put-5
+    put-requires-5
+    same-length
+    returns)

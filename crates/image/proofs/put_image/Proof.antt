@@ -1,0 +1,52 @@
+-- `image::put_image`: marks, numbers and arrays, where there is room for them all.
+use mathlib.Core.List.{_++_}
+use native.Mathlib.Omega.{arith}
+use Rattle.output.proofs.Placing.{no-room, joined}
+use Rattle.image.specs.Image.{marksOf, numbersOf, arraysOf, imageOf}
+use Rattle.image.proofs.Writing.{image-length}
+use borrow.Author.Needs.{needs}
+use Rattle.image.proofs.put_image.Statement.{statement}
+use Rattle.image.proofs.put_image.Tie as tie
+
+returns : tie.Need-returns
+returns c =
+    let a = c .before .before .args in
+    let s = a .session in
+    let size = image-length s (record { client = search needs; mapped = search needs; kinds = search needs; command = search needs; reply = search needs }) in
+    no-room (a .image .now) 0 (imageOf s) (omega (arith, c .if1 .taken)) .1
+
+put-marks-requires : tie.Need-put-marks-requires
+put-marks-requires c κs = search needs
+
+put-numbers-requires : tie.Need-put-numbers-requires
+put-numbers-requires c κs = search needs
+
+put-arrays-requires : tie.Need-put-arrays-requires
+put-arrays-requires c κs = search needs
+
+same-length : tie.Need-same-length
+same-length c = search needs
+
+returns-2 : tie.Need-returns-2
+unfolding imageOf
+returns-2 c =
+    let start = c .before .before .before .before .before .before .before .before .before .before .before .before .before .before in
+    let known = start .good .1 .0 in
+    let later = start .good .1 .0 .1 .1 .1 .1 .1 in
+    let a = start .args in
+    let s = a .session in
+    let size = image-length s (record { client = search needs; mapped = search needs; kinds = search needs; command = search needs; reply = search needs }) in
+    joined _ _ (marksOf s) (numbersOf s ++ arraysOf s) (c .before .before .before .before .before .before .before .before .before .before .put-marks .ensures)
+    (joined _ _ (numbersOf s) (arraysOf s) (c .before .before .before .before .before .before .put-numbers .ensures) (c .before .before .put-arrays .ensures))
+    (omega (arith, c .before .before .before .before .before .before .before .before .before .before .before .before .if1 .left)) .1
+
+pub put-image-spec : {M : Type 1} → statement M
+put-image-spec =
+    tie.close
+    (tie.spec
+    returns
+    put-marks-requires
+    put-numbers-requires
+    put-arrays-requires
+    same-length
+    returns-2)

@@ -1,0 +1,156 @@
+-- The record as octets at fixed places, for a host that keeps it in memory of its own: the table in docs/RECORD.md.
+use mathlib.Core.Path.{_≡_}
+use mathlib.Core.Bool.{Bool, true, false, _&&_}
+use mathlib.Core.List.{List, [], _∷_, _++_}
+use Prim.Native.Nat.{ℕ, zero, suc, _+_, _-_, _*_, _/_, _%_, _^_, _<_}
+use lib.Dec.{leb, eqb}
+use lib.ListN.{length, getD, take, drop, replicate}
+use Rattle.rules.specs.Octets.{choose, every}
+use Rattle.effects.specs.declared.Place.{Place}
+use Rattle.effects.specs.Effects.{at}
+use Rattle.session.specs.declared.Control.{Control}
+use Rattle.session.specs.declared.Counts.{Counts}
+use Rattle.session.specs.declared.Session.{Session}
+use Rattle.session.specs.Calls.{deadSession, sound}
+
+-- 7 marks, 7 numbers of four octets, 16 and 4 octets of addresses, 16 kinds, two lines of 511
+abbrev pub imageSize : ℕ
+imageSize = 1093
+
+-- ---- values as octets
+
+unfoldable pub bit : Bool → ℕ
+bit false = 0
+bit true = 1
+
+unfoldable pub placeNumber : Place → ℕ
+placeNumber Place.Holding = 0
+placeNumber Place.Flowing = 1
+placeNumber Place.Passing = 2
+placeNumber Place.Ended = 3
+
+-- a number of 32 bits in four octets, high octet first
+unfoldable pub fourOctets : ℕ → List ℕ
+fourOctets n = n / 256 / 256 / 256 % 256 ∷ n / 256 / 256 % 256 ∷ n / 256 % 256 ∷ n % 256 ∷ []
+
+-- a count in 32 bits; a larger one, which number 4 refuses, is the largest, which it refuses too
+unfoldable pub capped : ℕ → ℕ
+capped n = choose (leb n (2 ^ 32 - 1)) n (2 ^ 32 - 1)
+
+-- ---- the image of a record
+
+unfoldable pub marksOf : Session → List ℕ
+marksOf s =
+    let c = s .control in
+    bit (s .live) ∷ bit (s .supported) ∷ bit (c .switches .epsv) ∷ bit (c .switches .eprt) ∷ bit (c .unfinished)
+    ∷ placeNumber (c .client .place) ∷ placeNumber (c .server .place) ∷ []
+
+unfoldable pub numbersOf : Session → List ℕ
+numbersOf s =
+    let c = s .control in
+    fourOctets (capped (c .owed))
+    ++ (fourOctets (capped (c .client .held))
+    ++ (fourOctets (capped (c .server .held))
+    ++ (fourOctets (s .up .taken)
+    ++ (fourOctets (s .up .written)
+    ++ (fourOctets (s .down .taken)
+    ++ fourOctets (s .down .written))))))
+
+unfoldable pub arraysOf : Session → List ℕ
+arraysOf s = s .client ++ (s .mapped ++ (s .kinds ++ (s .command ++ s .reply)))
+
+unfoldable pub imageOf : Session → List ℕ
+imageOf s = marksOf s ++ (numbersOf s ++ arraysOf s)
+
+-- ---- the record of an image
+
+abbrev pub isSet : List ℕ → ℕ → Bool
+isSet image i = eqb (getD image i 0) 1
+
+unfoldable pub placeOf : ℕ → Place
+placeOf zero = Place.Holding
+placeOf (suc zero) = Place.Flowing
+placeOf (suc (suc zero)) = Place.Passing
+placeOf (suc (suc (suc n))) = Place.Ended
+
+-- the number in the four octets at a place, high octet first
+unfoldable pub numberAt : List ℕ → ℕ → ℕ
+numberAt image i =
+    ((getD image i 0 * 256 + getD image (i + 1) 0) * 256 + getD image (i + 2) 0) * 256 + getD image (i + 3) 0
+
+-- the n octets at a place
+abbrev pub part : List ℕ → ℕ → ℕ → List ℕ
+part image i n = take n (drop i image)
+
+unfoldable pub countsAt : List ℕ → ℕ → Counts
+countsAt image i = record { taken = numberAt image i; written = numberAt image (i + 4) }
+
+unfoldable pub controlIn : List ℕ → Control
+controlIn image =
+    record {
+      switches = record { epsv = isSet image 2; eprt = isSet image 3 };
+      client = at (placeOf (getD image 5 0)) (numberAt image 11);
+      server = at (placeOf (getD image 6 0)) (numberAt image 15);
+      owed = numberAt image 7;
+      unfinished = isSet image 4;
+    }
+
+unfoldable pub fieldsIn : List ℕ → Session
+fieldsIn image =
+    record {
+      live = isSet image 0;
+      client = part image 35 16;
+      mapped = part image 51 4;
+      supported = isSet image 1;
+      control = controlIn image;
+      command = part image 71 511;
+      reply = part image 582 511;
+      kinds = part image 55 16;
+      up = countsAt image 19;
+      down = countsAt image 27;
+    }
+
+unfoldable pub atMost : ℕ → List ℕ → Bool
+atMost most octets = every (λ n. leb n most) octets
+
+-- there are octets enough, and each mark has a value of its field
+unfoldable pub isImage : List ℕ → Bool
+isImage image = leb imageSize (length image) && atMost 1 (part image 0 5) && atMost 3 (part image 5 2)
+
+-- what is no image is the record of a refused setup, which number 4 refuses
+unfoldable pub sessionOf : List ℕ → Session
+sessionOf image = choose (isImage image) (fieldsIn image) deadSession
+
+-- ---- an image is read back
+
+-- what the types of a record's arrays say of their lengths
+pub record Sized (s : Session) : Type 0 where
+  pub client : length (s .client) ≡ 16
+  pub mapped : length (s .mapped) ≡ 4
+  pub kinds : length (s .kinds) ≡ 16
+  pub command : length (s .command) ≡ 511
+  pub reply : length (s .reply) ≡ 511
+
+-- and what those of its counters say
+pub record Wrapped (c : Counts) : Type 0 where
+  pub taken : c .taken < 2 ^ 32
+  pub written : c .written < 2 ^ 32
+
+-- a record that number 4 does not refuse comes back from its image, whatever octets follow it
+abbrev pub ReadBack : Type 0
+ReadBack =
+    (s : Session) (rest : List ℕ) → Sized s → Wrapped (s .up) → Wrapped (s .down) → sound s ≡ true
+    → sessionOf (imageOf s ++ rest) ≡ s
+
+-- so does that of a refused setup
+abbrev pub DeadBack : Type 0
+DeadBack = (rest : List ℕ) → sessionOf (imageOf deadSession ++ rest) ≡ deadSession
+
+-- "With 5 the record is not live and otherwise all zero"
+abbrev pub DeadZero : Type 0
+DeadZero = imageOf deadSession ≡ replicate imageSize 0
+
+-- an image that is read and written is the same octets
+abbrev pub WrittenSame : Type 0
+WrittenSame =
+    (image : List ℕ) → isImage image ≡ true → ((i : ℕ) → getD image i 0 < 256) → imageOf (sessionOf image) ≡ take imageSize image

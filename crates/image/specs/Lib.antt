@@ -1,0 +1,2 @@
+-- The record as octets in lent memory.
+pub mod Image

@@ -1,0 +1,283 @@
+// The record as octets in lent memory, so that a host can keep it between calls.
+ghost use mathlib.Core.Path.{_≡_};
+ghost use Prim.Native.Nat.{_+_, _≤_};
+ghost use lib.ListN.{length, replicate};
+ghost use Rattle.output.specs.Buffer.{placed, placeAfter, PlacedInRoom};
+ghost use Rattle.session.specs.Calls.{deadSession};
+ghost use Rattle.image.specs.Image.{bit as bitOf, placeNumber, fourOctets, capped as cappedAt, marksOf, numbersOf, arraysOf, imageOf, placeOf, numberAt, part, countsAt, controlIn, fieldsIn, atMost, sessionOf};
+use effects::Direction;
+use effects::Place;
+use output::put;
+use rules::Switches;
+use session::Control;
+use session::Counts;
+use session::Session;
+use session::refused_setup;
+
+// The octets of an image.
+pub const SIZE: usize = 1093;
+
+// Puts a record's image at the front of lent memory, or nothing where it does not fit.
+pub fn put_image(image: &mut [u8], session: Session)
+    ensures { λ _. ⌜ now (image .exit) ≡ placed (now (image .entry)) 0 (imageOf session) ⌝ }
+{
+    if image.len() < SIZE {
+        return;
+    }
+    let marked = put_marks(image, 0, session);
+    let counted = put_numbers(image, marked, session);
+    put_arrays(image, counted, session);
+}
+
+fn put_marks(out: &mut [u8], at: usize, session: Session) -> usize
+    ensures { λ r. ⌜ PlacedInRoom (now (out .entry)) at (marksOf session) r (now (out .exit)) ⌝ }
+{
+    let control = session.control;
+    let switches = control.switches;
+    let client = control.client;
+    let server = control.server;
+    let client_place = client.place;
+    let server_place = server.place;
+    let marks = [
+        bit(session.live),
+        bit(session.supported),
+        bit(switches.epsv),
+        bit(switches.eprt),
+        bit(control.unfinished),
+        place_number(client_place),
+        place_number(server_place),
+    ];
+    put(out, at, &marks)
+}
+
+fn bit(set: bool) -> u8
+    ensures { λ r. ⌜ r ≡ bitOf set ⌝ }
+{
+    if set {
+        return 1;
+    }
+    0
+}
+
+fn place_number(place: Place) -> u8
+    ensures { λ r. ⌜ r ≡ placeNumber place ⌝ }
+{
+    match place {
+        Place::Holding => 0,
+        Place::Flowing => 1,
+        Place::Passing => 2,
+        Place::Ended => 3,
+    }
+}
+
+fn put_numbers(out: &mut [u8], at: usize, session: Session) -> usize
+    ensures { λ r. ⌜ PlacedInRoom (now (out .entry)) at (numbersOf session) r (now (out .exit)) ⌝ }
+{
+    let control = session.control;
+    let client = control.client;
+    let server = control.server;
+    let up = session.up;
+    let down = session.down;
+    let mut next = put_number(out, at, capped(control.owed));
+    next = put_number(out, next, capped(client.held));
+    next = put_number(out, next, capped(server.held));
+    next = put_number(out, next, up.taken);
+    next = put_number(out, next, up.written);
+    next = put_number(out, next, down.taken);
+    put_number(out, next, down.written)
+}
+
+// A count in 32 bits. One that is larger is refused as a record before and after.
+fn capped(n: usize) -> u32
+    ensures { λ r. ⌜ r ≡ cappedAt n ⌝ }
+{
+    if n <= 4294967295 {
+        return n as u32;
+    }
+    4294967295
+}
+
+// A number in four octets, high octet first.
+fn put_number(out: &mut [u8], at: usize, n: u32) -> usize
+    ensures { λ r. ⌜ r ≡ placeAfter (now (out .entry)) at (fourOctets n) ⌝ }
+    ensures { λ r. ⌜ now (out .exit) ≡ placed (now (out .entry)) at (fourOctets n) ⌝ }
+{
+    let octets = [
+        (n / 256 / 256 / 256 % 256) as u8,
+        (n / 256 / 256 % 256) as u8,
+        (n / 256 % 256) as u8,
+        (n % 256) as u8,
+    ];
+    put(out, at, &octets)
+}
+
+fn put_arrays(out: &mut [u8], at: usize, session: Session) -> usize
+    ensures { λ r. ⌜ PlacedInRoom (now (out .entry)) at (arraysOf session) r (now (out .exit)) ⌝ }
+{
+    let client = session.client;
+    let mapped = session.mapped;
+    let kinds = session.kinds;
+    let command = session.command;
+    let reply = session.reply;
+    let mut next = put(out, at, &client);
+    next = put(out, next, &mapped);
+    next = put(out, next, &kinds);
+    next = put(out, next, &command);
+    put(out, next, &reply)
+}
+
+// The record of an image. Octets that are no image are a record that number 4 refuses.
+pub fn read_image(image: &[u8]) -> Session
+    ensures { λ r. ⌜ r ≡ sessionOf (now (image .entry)) ⌝ }
+{
+    if image.len() < SIZE {
+        return dead();
+    }
+    if !at_most(&image[..5], 1) {
+        return dead();
+    }
+    if !at_most(&image[5..7], 3) {
+        return dead();
+    }
+    fields(image)
+}
+
+fn dead() -> Session
+    ensures { λ r. ⌜ r ≡ deadSession ⌝ }
+{
+    let p = refused_setup();
+    p.session
+}
+
+// Whether no octet is over a bound.
+fn at_most(octets: &[u8], most: u8) -> bool
+    ensures { λ r. ⌜ r ≡ atMost most (now (octets .entry)) ⌝ }
+{
+    let mut i = 0;
+    while i < octets.len() {
+        if octets[i] > most {
+            return false;
+        }
+        i += 1;
+    }
+    true
+}
+
+fn fields(image: &[u8]) -> Session
+    requires { ⌜ 1093 ≤ length (now image) ⌝ }
+    ensures { λ r. ⌜ r ≡ fieldsIn (now (image .entry)) ⌝ }
+{
+    let live = image[0] == 1;
+    let supported = image[1] == 1;
+    let client = sixteen(&image[35..51]);
+    let mapped = four(&image[51..55]);
+    let kinds = sixteen(&image[55..71]);
+    let command = line(&image[71..582]);
+    let reply = line(&image[582..1093]);
+    let control = control_in(image);
+    let up = counts_at(image, 19);
+    let down = counts_at(image, 27);
+    Session {
+        live,
+        client,
+        mapped,
+        supported,
+        control,
+        command,
+        reply,
+        kinds,
+        up,
+        down,
+    }
+}
+
+fn control_in(image: &[u8]) -> Control
+    requires { ⌜ 1093 ≤ length (now image) ⌝ }
+    ensures { λ r. ⌜ r ≡ controlIn (now (image .entry)) ⌝ }
+{
+    let switches = Switches {
+        epsv: image[2] == 1,
+        eprt: image[3] == 1,
+    };
+    let client = Direction {
+        place: place_of(image[5]),
+        held: number_at(image, 11) as usize,
+    };
+    let server = Direction {
+        place: place_of(image[6]),
+        held: number_at(image, 15) as usize,
+    };
+    Control {
+        switches,
+        client,
+        server,
+        owed: number_at(image, 7) as usize,
+        unfinished: image[4] == 1,
+    }
+}
+
+fn place_of(n: u8) -> Place
+    ensures { λ r. ⌜ r ≡ placeOf n ⌝ }
+{
+    match n {
+        0 => Place::Holding,
+        1 => Place::Flowing,
+        2 => Place::Passing,
+        _ => Place::Ended,
+    }
+}
+
+fn counts_at(image: &[u8], at: usize) -> Counts
+    requires { ⌜ at + 8 ≤ length (now image) ⌝ }
+    ensures { λ r. ⌜ r ≡ countsAt (now (image .entry)) at ⌝ }
+{
+    Counts {
+        taken: number_at(image, at),
+        written: number_at(image, at + 4),
+    }
+}
+
+// The number in four octets, high octet first.
+fn number_at(image: &[u8], at: usize) -> u32
+    requires { ⌜ at + 4 ≤ length (now image) ⌝ }
+    ensures { λ r. ⌜ r ≡ numberAt (now (image .entry)) at ⌝ }
+{
+    let first = wide(image[at]);
+    let second = wide(image[at + 1]);
+    let third = wide(image[at + 2]);
+    let fourth = wide(image[at + 3]);
+    ((first * 256 + second) * 256 + third) * 256 + fourth
+}
+
+fn wide(octet: u8) -> u32
+    ensures { λ r. ⌜ r ≡ octet ⌝ }
+    ensures { λ r. ⌜ r ≤ 255 ⌝ }
+{
+    octet as u32
+}
+
+// Sixteen octets as an array; zeros where there are more than sixteen, and behind fewer.
+pub fn sixteen(octets: &[u8]) -> [u8; 16]
+    ensures { λ r. ⌜ r ≡ placed (replicate 16 0) 0 (now (octets .entry)) ⌝ }
+{
+    let mut out = [0u8; 16];
+    put(&mut out, 0, octets);
+    out
+}
+
+// Four octets as an array; zeros where there are more than four, and behind fewer.
+pub fn four(octets: &[u8]) -> [u8; 4]
+    ensures { λ r. ⌜ r ≡ placed (replicate 4 0) 0 (now (octets .entry)) ⌝ }
+{
+    let mut out = [0u8; 4];
+    put(&mut out, 0, octets);
+    out
+}
+
+fn line(octets: &[u8]) -> [u8; 511]
+    ensures { λ r. ⌜ r ≡ placed (replicate 511 0) 0 (now (octets .entry)) ⌝ }
+{
+    let mut out = [0u8; 511];
+    put(&mut out, 0, octets);
+    out
+}

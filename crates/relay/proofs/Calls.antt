@@ -1,0 +1,116 @@
+-- The calls of a host in C, from what the session and the image promise.
+use mathlib.Core.Path.{_≡_, ap, sym, _∙_}
+use mathlib.Core.List.{List, _++_}
+use Prim.Native.Nat.{ℕ, _≤_, _<_}
+use native.Mathlib.Omega.{arith}
+use lib.ListN.{length, drop, replicate}
+use borrow.Author.Tests.{eq-eqb, ne-eqb, le-leb, lt-leb}
+use Rattle.rules.specs.Octets.{choose}
+use Rattle.rules.specs.Answers.{answerNumber}
+use Rattle.rules.specs.declared.Answer.{Answer}
+use Rattle.output.specs.Buffer.{placed}
+use Rattle.session.specs.declared.Called.{Called}
+use Rattle.session.specs.declared.Prepared.{Prepared}
+use Rattle.session.specs.declared.Session.{Session}
+use Rattle.session.specs.declared.DirectionOffset.{DirectionOffset}
+use Rattle.session.specs.Calls.{Outcome, prepared, offset}
+use Rattle.image.specs.Image.{imageSize, imageOf, sessionOf}
+use Rattle.image.proofs.Reading.{filled}
+use Rattle.relay.specs.Host.{
+  refusedSetup,
+  preparedFrom,
+  setupNumber,
+  imageAfter,
+  serverAfter,
+  clientAfter,
+  countsAfter,
+  offsetNumber,
+  offsetAfter,
+}
+
+-- ---- setup
+
+module _ (client mapped : List ℕ) (flags : ℕ) where
+  pub wrong-client : (length client ≡ 16 → ⊥) → refusedSetup ≡ preparedFrom client mapped flags
+  unfolding preparedFrom choose
+  wrong-client ne = rw (ne-eqb (length client) 16 ne)
+
+  pub wrong-mapped : length client ≡ 16 → (length mapped ≡ 4 → ⊥) → refusedSetup ≡ preparedFrom client mapped flags
+  unfolding preparedFrom choose
+  wrong-mapped e ne = rw (eq-eqb (length client) 16 e, ne-eqb (length mapped) 4 ne)
+
+  pub from-slices : length client ≡ 16 → length mapped ≡ 4 → preparedFrom client mapped flags ≡ prepared client mapped flags
+  unfolding preparedFrom choose
+  from-slices e f = rw (eq-eqb (length client) 16 e, eq-eqb (length mapped) 4 f)
+
+  -- a setup on copies of the two addresses
+  pub set-up : {a m : List ℕ} {p : Prepared} → length client ≡ 16 → length mapped ≡ 4 → a ≡ placed (replicate 16 0) 0 client
+      → m ≡ placed (replicate 4 0) 0 mapped → p ≡ prepared a m flags → p ≡ preparedFrom client mapped flags
+  set-up {a} {m} e f same same′ made =
+      made ∙ (ap (λ (x : List ℕ). prepared x m flags) (same ∙ filled 16 client e) ∙ (ap (λ (x : List ℕ). prepared client x flags) (same′ ∙ filled 4 mapped f) ∙ sym (from-slices e f)))
+
+module _ (image : List ℕ) (p : Prepared) {n : ℕ} where
+  pub no-room : length image < imageSize → n ≡ answerNumber Answer.BadSetup → n ≡ setupNumber image p
+  unfolding setupNumber choose
+  no-room h e = rw (lt-leb imageSize (length image) h) e
+
+  pub room : imageSize ≤ length image → n ≡ answerNumber (p .answer) → n ≡ setupNumber image p
+  unfolding setupNumber choose
+  room h e = rw (le-leb imageSize (length image) h) e
+
+-- the same of the setup that was asked for
+pub setup-told : (image : List ℕ) {p q : Prepared} {n : ℕ} {image′ : List ℕ} → p ≡ q → n ≡ setupNumber image p → image′ ≡ placed image 0 (imageOf (p .session))
+    → (n ≡ setupNumber image q) × (image′ ≡ placed image 0 (imageOf (q .session)))
+setup-told image e number put =
+    (number ∙ ap (setupNumber image) e, put ∙ ap (λ (x : Prepared). placed image 0 (imageOf (x .session))) e)
+
+-- ---- the image after a call
+
+module _ (image : List ℕ) (k : Called) {n : ℕ} (number : n ≡ answerNumber (k .answer)) where
+  pub kept : 3 ≤ n → image ≡ imageAfter image k
+  unfolding imageAfter choose
+  kept h = rw (le-leb 3 (answerNumber (k .answer)) (omega arith))
+
+  pub written-back : n < 3 → placed image 0 (imageOf (k .session)) ≡ imageAfter image k
+  unfolding imageAfter choose
+  written-back h = rw (lt-leb 3 (answerNumber (k .answer)) (omega arith))
+
+-- ---- an arrival or an end, by what it makes of a record
+
+module _ (image : List ℕ) (made : Session → Outcome) (toServer toClient counts : List ℕ) where
+  abbrev pub Told : ℕ → List ℕ → List ℕ → List ℕ → List ℕ → Type 0
+  Told n image′ toServer′ toClient′ counts′ =
+      (n ≡ answerNumber (made (sessionOf image) .called .answer))
+      × ((image′ ≡ imageAfter image (made (sessionOf image) .called))
+      × ((toServer′ ≡ serverAfter (made (sessionOf image)) toServer)
+      × ((toClient′ ≡ clientAfter (made (sessionOf image)) toClient)
+      × (counts′ ≡ countsAfter (made (sessionOf image) .called) counts))))
+
+  pub told : {s : Session} {k : Called} {n : ℕ} {image′ toServer′ toClient′ counts′ : List ℕ} → s ≡ sessionOf image → k ≡ made s .called
+      → toServer′ ≡ made s .toServer ++ drop (k .written .server) toServer → toClient′ ≡ made s .toClient ++ drop (k .written .client) toClient
+      → counts′ ≡ countsAfter k counts → n ≡ answerNumber (k .answer) → image′ ≡ imageAfter image k
+      → Told n image′ toServer′ toClient′ counts′
+  unfolding serverAfter clientAfter
+  told {s} e p server client counted number kept′ =
+      let same = p ∙ ap (λ (x : Session). made x .called) e in (
+        number ∙ ap (λ (x : Called). answerNumber (x .answer)) same,
+        (
+          kept′ ∙ ap (imageAfter image) same,
+          (
+            server ∙ (ap (λ (x : Called). made s .toServer ++ drop (x .written .server) toServer) p ∙ ap (λ (x : Session). made x .toServer ++ drop (made x .called .written .server) toServer) e),
+            (
+              client ∙ (ap (λ (x : Called). made s .toClient ++ drop (x .written .client) toClient) p ∙ ap (λ (x : Session). made x .toClient ++ drop (made x .called .written .client) toClient) e),
+              counted ∙ ap (λ (x : Called). countsAfter x counts) same,
+            ),
+          ),
+        ),
+      )
+
+-- ---- offset
+
+pub offset-told : (image : List ℕ) (direction : ℕ) (out : List ℕ) {s : Session} {x y : DirectionOffset} {n : ℕ} {out′ : List ℕ} → s ≡ sessionOf image
+    → x ≡ offset s direction → x ≡ y → n ≡ offsetNumber y → out′ ≡ offsetAfter y out
+    → (n ≡ offsetNumber (offset (sessionOf image) direction)) × (out′ ≡ offsetAfter (offset (sessionOf image) direction) out)
+offset-told image direction out {x = x} {y = y} e p q number after =
+    let same : y ≡ offset (sessionOf image) direction = sym q ∙ (p ∙ ap (λ (z : Session). offset z direction) e) in
+    (number ∙ ap offsetNumber same, after ∙ ap (λ (z : DirectionOffset). offsetAfter z out) same)

@@ -1,0 +1,150 @@
+-- The memory of a host in C carries the record from call to call.
+use mathlib.Core.Path.{_≡_, refl, ap, sym, _∙_}
+use mathlib.Core.Bool.{Bool, true, false}
+use mathlib.Core.List.{List}
+use mathlib.Core.Option.{Option, none, some}
+use Prim.Native.Nat.{ℕ, _^_, _≤_, _<_}
+use native.Mathlib.Omega.{arith}
+use lib.Dec.{leb}
+use lib.ListN.{length, take, drop, take-append-drop}
+use lib.Seq.{length-take-le}
+use borrow.Author.Tests.{leb-true, leb-false}
+use Rattle.rules.specs.Octets.{choose}
+use Rattle.rules.specs.Lines.{judged}
+use Rattle.rules.specs.Answers.{Side, mostOwed, wrapped, answerNumber}
+use Rattle.rules.specs.declared.Answer.{Answer}
+use Rattle.output.specs.Buffer.{placed}
+use Rattle.output.proofs.Placing.{length-placed}
+use Rattle.session.specs.declared.Session.{Session}
+use Rattle.session.specs.Bounds.{Shaped}
+use Rattle.session.specs.Steps.{Step}
+use Rattle.session.specs.Calls.{Took, Outcome, refused, unlessRefused, outcome, sessionAfter, arrived, endOutcome, ended, prepared, deadSession, freshSession}
+use Rattle.session.proofs.Placing.{front-placed}
+use Rattle.answers.specs.Table.{Call, Result, arrival, ending, Sound, BadFlags}
+use Rattle.answers.proofs.Refusals.{sound-words}
+use Rattle.answers.proofs.Kept.{calls-keep, fresh-kept}
+use Rattle.answers.proofs.Table.{refused-untouched, end-two, end-two-untouched, five, setup-zero}
+use Rattle.image.specs.Image.{imageSize, imageOf, fieldsIn, isImage, sessionOf, Sized, Wrapped}
+use Rattle.image.proofs.Writing.{image-length}
+use Rattle.image.proofs.Back.{read-back}
+use Rattle.image.proofs.Again.{image-long, written-same}
+use Rattle.relay.specs.Host.{endedAt, imageAfter}
+use Rattle.relay.specs.Carried.{Holds, Begun, Carried, EndKeeps}
+use Rattle.relay.proofs.Calls.{from-slices, kept, written-back}
+
+sizes : (s : Session) → Shaped s → length (s .client) ≡ 16 → Sized s
+unfolding judged mostOwed
+sizes s h e = record { client = e; mapped = h .mapped; kinds = h .kinds; command = h .command; reply = h .reply }
+
+-- a record that is put into memory with room for it is held there
+put-holds : (image : List ℕ) (s : Session) → imageSize ≤ length image → Shaped s → length (s .client) ≡ 16 → Wrapped (s .up) → Wrapped (s .down)
+    → Sound s → Holds (placed image 0 (imageOf s)) s
+put-holds image s room shape e up down w =
+    let size = sizes s shape e in
+    let long = image-length s size in
+    let fits : length (imageOf s) ≤ length image = omega arith in
+    record {
+      room = omega (arith, length-placed image 0 (imageOf s) (omega arith));
+      read = rw (front-placed image (imageOf s) fits) (read-back s (drop (length (imageOf s)) image) size up down (sound-words s .1 w));
+      shaped = shape;
+      client = e;
+      up = up;
+      down = down;
+      sound = w;
+    }
+
+-- ---- what a call does not touch, and its counters
+
+pub record Fixed (s : Session) (o : Outcome) : Type 0 where
+  pub client : o .called .session .client ≡ s .client
+  pub up : Wrapped (o .called .session .up)
+  pub down : Wrapped (o .called .session .down)
+
+low : (n : ℕ) → wrapped n < 2 ^ 32
+unfolding wrapped
+low n = omega arith
+
+outcome-fixed : (s : Session) (d : Side) (t : Took) → Fixed s (outcome s d t)
+unfolding outcome sessionAfter
+outcome-fixed s d t =
+    record { client = refl; up = record { taken = low _; written = low _ }; down = record { taken = low _; written = low _ } }
+
+module _ (s : Session) (up : Wrapped (s .up)) (down : Wrapped (s .down)) where
+  same-fixed : (a : Answer) → Fixed s (refused a s)
+  unfolding refused
+  same-fixed a = record { client = refl; up = up; down = down }
+
+  unless-fixed : (r : Option Answer) (o : Outcome) → Fixed s o → Fixed s (unlessRefused r s o)
+  unfolding unlessRefused
+  unless-fixed none o f = f
+  unless-fixed (some a) o f = same-fixed a
+
+  end-fixed : (d : Side) (t : Step) (b : Bool) → Fixed s (endOutcome s d t b)
+  unfolding endOutcome
+  end-fixed d t true = outcome-fixed s d _
+  end-fixed d t false = same-fixed Answer.NoRoom
+
+call-fixed : (c : Call) (o : Outcome) → Wrapped (c .session .up) → Wrapped (c .session .down) → Result c o → Fixed (c .session) o
+unfolding arrived ended
+call-fixed c o up down (arrival octets) = unless-fixed (c .session) up down _ _ (outcome-fixed (c .session) _ _)
+call-fixed c o up down ending = unless-fixed (c .session) up down _ _ (end-fixed (c .session) up down _ _ _)
+
+-- ---- setup
+
+fresh-counts : (client mapped : List ℕ) (flags : ℕ) → Wrapped (freshSession client mapped flags .up) × Wrapped (freshSession client mapped flags .down)
+unfolding freshSession
+fresh-counts client mapped flags = (record { taken = omega arith; written = omega arith }, record { taken = omega arith; written = omega arith })
+
+fresh-client : (client mapped : List ℕ) (flags : ℕ) → freshSession client mapped flags .client ≡ client
+unfolding freshSession
+fresh-client client mapped flags = refl
+
+good-flags : (client mapped : List ℕ) (flags : ℕ) → prepared client mapped flags .answer ≡ Answer.Done → BadFlags flags → ⊥
+unfolding answerNumber
+good-flags client mapped flags e b = omega (arith, five client mapped flags .1 b, ap answerNumber e)
+
+pub begun : Begun
+begun image client mapped flags room e f octets done =
+    let p = from-slices client mapped flags e f in
+    let z = setup-zero client mapped flags (good-flags client mapped flags (rw p at done)) in
+    let k = fresh-kept client mapped flags f octets in
+    let n = fresh-counts client mapped flags in
+    let held = put-holds image (freshSession client mapped flags) room (k .0) (ap length (fresh-client client mapped flags) ∙ e) (n .0) (n .1) (k .1) in
+    rw (p ∙ z) held
+
+-- ---- the calls
+
+pub carried : Carried
+carried image c o h r = by-number (leb 3 (answerNumber (o .called .answer))) refl
+  where
+    by-number : (b : Bool) → leb 3 (answerNumber (o .called .answer)) ≡ b → Holds (imageAfter image (o .called)) (o .called .session)
+    by-number true e =
+        let high = leb-true 3 (answerNumber (o .called .answer)) e in
+        rw (sym (kept image (o .called) refl high), refused-untouched c o r high .session) h
+    by-number false e =
+        let low′ = leb-false 3 (answerNumber (o .called .answer)) e in
+        let k = calls-keep c (h .shaped) (h .sound) o r in
+        let f = call-fixed c o (h .up) (h .down) r in
+        rw (sym (written-back image (o .called) refl low′)) (put-holds image (o .called .session) (h .room) (k .0) (ap length (f .client) ∙ h .client) (f .up) (f .down) (k .1))
+
+-- ---- an end whose octets do not fit
+
+not-dead : (image : List ℕ) (b : Bool) → choose b (fieldsIn image) deadSession .live ≡ true → b ≡ true
+unfolding choose deadSession
+not-dead image true e = refl
+not-dead image false e = e
+
+-- a record whose image stands in memory already
+unchanged : (image : List ℕ) (s : Session) → imageSize ≤ length image → imageOf s ≡ take imageSize image → placed image 0 (imageOf s) ≡ image
+unchanged image s long same =
+    let size : length (imageOf s) ≡ imageSize = ap length same ∙ length-take-le imageSize image long in
+    front-placed image (imageOf s) (omega arith) ∙ rw (size, same) (take-append-drop imageSize image)
+
+pub end-keeps : EndKeeps
+unfolding endedAt sessionOf
+end-keeps image direction toServer toClient octets two =
+    let c : Call = record { session = sessionOf image; direction = direction; serverRoom = length toServer; clientRoom = length toClient } in
+    let k = ended (sessionOf image) direction (length toServer) (length toClient) .called in
+    let ok = not-dead image (isImage image) (end-two c .0 two .0 .sound .live) in
+    sym (written-back image k refl (omega arith))
+    ∙ (ap (λ (s : Session). placed image 0 (imageOf s)) (end-two-untouched c two .session) ∙ unchanged image (sessionOf image) (image-long image ok) (written-same image ok octets))
