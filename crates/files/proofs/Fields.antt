@@ -9,10 +9,10 @@ use lib.Dec.{leb}
 use lib.ListN.{length, getD, drop, length-append, drop-of-length-le}
 use lib.Seq.{drop-cons}
 use borrow.Author.Tests.{le-leb, lt-leb, leb-true, leb-false}
-use Rattle.rules.specs.Octets.{oct, choose, decimal}
+use Rattle.rules.specs.Octets.{oct, lf, choose, decimal}
 use Rattle.files.specs.declared.Room.{Room}
-use Rattle.files.specs.Report.{Done, hexGlyph, standsAsItself, shown, shownAll, field, entryLine}
-use Rattle.files.specs.Parts.{roomAfter, headerLine, doneOf}
+use Rattle.files.specs.Report.{Done, hexGlyph, standsAsItself, shown, shownAll, field, entryLine, headerLine, refusedLine}
+use Rattle.files.specs.Parts.{roomAfter, doneOf}
 
 -- ---- an octet
 
@@ -102,10 +102,17 @@ module _ (s : List ℕ) (left i : ℕ) where
   pub shown-done : length s ≤ i → roomAfter left (length (shownAll (drop i s))) ≡ Room.Left left
   shown-done h = let all : left - 0 ≡ left = omega arith in rw (shown-end s i h, room-left left 0 (omega arith), all)
 
--- ---- the header
+-- ---- lines of a text and a number
+
+number-line : (text : List ℕ) (n : ℕ) → length (text ++ (decimal n ++ (lf ∷ []))) ≡ length text + 1 + length (decimal n)
+number-line text n = simp length-append (omega arith)
 
 pub header-length : (n : ℕ) → length (headerLine n) ≡ 14 + length (decimal n)
-header-length n = simp length-append (omega arith)
+header-length = number-line (oct "FTP64 REPORT ")
+
+pub refused-length : (n : ℕ) → length (refusedLine n) ≡ 9 + length (decimal n)
+unfolding refusedLine
+refused-length = number-line (oct "REFUSED ")
 
 -- ---- the line of an entry
 

@@ -1,3 +1,4 @@
 pub mod Printed
 pub mod Tables
 pub mod Fields
+pub mod Accepted

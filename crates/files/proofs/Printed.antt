@@ -13,10 +13,10 @@ use Rattle.gives.specs.Text.{gives-opened}
 use Rattle.effects.specs.Effects.{effects-opened}
 use Rattle.session.specs.Steps.{steps-opened}
 use Rattle.session.specs.Calls.{calls-opened}
-use Rattle.files.specs.Table.{table-opened}
+use Rattle.files.specs.Contents.{contents-opened}
 use Rattle.files.specs.Report.{report, report-opened}
 use Rattle.files.specs.Printed.{printedFile, printedReport, printed-opened}
 
 pub printed : report printedFile ≡ printedReport
-unfolding octets-opened answers-opened setup-opened lines-opened address-opened commands-opened replies-opened exchanges-opened kinds-opened gives-opened effects-opened steps-opened calls-opened table-opened report-opened printed-opened
+unfolding octets-opened answers-opened setup-opened lines-opened address-opened commands-opened replies-opened exchanges-opened kinds-opened gives-opened effects-opened steps-opened calls-opened contents-opened report-opened printed-opened
 printed = refl

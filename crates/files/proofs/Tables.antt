@@ -6,13 +6,23 @@ use Prim.Native.Nat.{ℕ, zero, suc, _+_, _-_, _*_, _<_, _≤_}
 use native.Mathlib.Nat.{add-assoc, add-zero}
 use native.Mathlib.Omega.{arith}
 use lib.Dec.{eqb, leb}
-use lib.ListN.{length, getD, drop}
+use lib.ListN.{length, getD, drop, List·getD-eq-default}
 use lib.Seq.{getD-drop, drop-drop}
 use borrow.Author.Tests.{le-leb, lt-leb, lt-ltb, le-ltb, eq-eqb, ne-eqb}
 use Rattle.rules.specs.Octets.{choose, within}
 use Rattle.octets.proofs.Ranges.{is-within}
 use Rattle.files.specs.declared.Verdict.{Verdict}
-use Rattle.files.specs.Table.{Entry, pairAt, entryOf, entries, count, tableEnd, tableOf, goodLength, goodEntry, noSetups, goodTable, bodiesLength, verdict}
+use Rattle.files.specs.Contents.{Entry, pairAt, entryOf, entries, count, tableEnd, tableOf, goodLength, goodEntry, noSetups, goodTable, bodiesLength, verdict}
+
+-- ---- a pair of octets
+
+pub past-end : (file : List ℕ) (at : ℕ) → length file ≤ at → 0 ≡ pairAt file at
+unfolding pairAt
+past-end file at h = rw (List·getD-eq-default file 0 {n = at} h, List·getD-eq-default file 0 {n = at + 1} (omega arith))
+
+pub high-low : (file : List ℕ) (at : ℕ) {high low : ℕ} → high ≡ getD file at 0 → low ≡ getD file (at + 1) 0 → high * 256 + low ≡ pairAt file at
+unfolding pairAt
+high-low file at h l = rw (h, l)
 
 -- ---- one entry
 

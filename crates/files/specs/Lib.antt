@@ -1,5 +1,5 @@
 -- "Session files": which files are refused, and the report of the others.
-pub mod Table
+pub mod Contents
 pub mod Report
 pub mod Printed
 pub mod Parts

@@ -1,8 +1,8 @@
 -- The parts that the report is written by.
-use mathlib.Core.List.{List, [], _∷_, _++_}
+use mathlib.Core.List.{List}
 use Prim.Native.Nat.{ℕ, _-_}
 use lib.Dec.{leb}
-use Rattle.rules.specs.Octets.{oct, lf, choose, decimal}
+use Rattle.rules.specs.Octets.{choose}
 use Rattle.session.specs.Calls.{deadSession}
 use Rattle.files.specs.declared.Room.{Room}
 use Rattle.files.specs.Report.{Done}
@@ -10,10 +10,6 @@ use Rattle.files.specs.Report.{Done}
 -- the room that is left after n octets
 unfoldable pub roomAfter : ℕ → ℕ → Room
 roomAfter room n = choose (leb n room) (Room.Left (room - n)) Room.Full
-
--- "a header with the entry count"
-abbrev pub headerLine : ℕ → List ℕ
-headerLine count = oct "FTP64 REPORT " ++ (decimal count ++ (lf ∷ []))
 
 -- what an entry did, by the parts that its line shows; its line does not show the record
 unfoldable pub doneOf : ℕ → ℕ → List ℕ → List ℕ → Done

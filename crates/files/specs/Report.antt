@@ -9,7 +9,7 @@ use Rattle.rules.specs.Answers.{answerNumber}
 use Rattle.session.specs.declared.Session.{Session}
 use Rattle.session.specs.Calls.{Outcome, prepared, arrived, ended, deadSession}
 use Rattle.files.specs.declared.Verdict.{Verdict}
-use Rattle.files.specs.Table.{Entry, count, tableEnd, tableOf, verdict}
+use Rattle.files.specs.Contents.{Entry, count, tableEnd, tableOf, verdict, verdictNumber}
 
 -- "The replay uses 16,384 octets for each out buffer, emptied per entry"
 unfoldable pub outRoom : ℕ
@@ -84,14 +84,21 @@ entryLines s n (e ∷ es) bodies =
 
 -- ---- the report
 
+-- "a header with the entry count"
+abbrev pub headerLine : ℕ → List ℕ
+headerLine count = oct "FTP64 REPORT " ++ (decimal count ++ (lf ∷ []))
+
+-- "then per entry .."
 unfoldable pub acceptedReport : List ℕ → List ℕ
-acceptedReport file =
-    oct "FTP64 REPORT " ++ (decimal (count file) ++ (lf ∷ entryLines deadSession 0 (tableOf file) (drop (tableEnd file) file)))
+acceptedReport file = headerLine (count file) ++ entryLines deadSession 0 (tableOf file) (drop (tableEnd file) file)
 
 -- "Refused by the single line `REFUSED 7` .. or `REFUSED 8`"
+unfoldable pub refusedLine : ℕ → List ℕ
+refusedLine number = oct "REFUSED " ++ (decimal number ++ (lf ∷ []))
+
 unfoldable pub reportBy : Verdict → List ℕ → List ℕ
-reportBy Verdict.WrongLength file = oct "REFUSED 7\n"
-reportBy Verdict.WrongTable file = oct "REFUSED 8\n"
+reportBy Verdict.WrongLength file = refusedLine (verdictNumber Verdict.WrongLength)
+reportBy Verdict.WrongTable file = refusedLine (verdictNumber Verdict.WrongTable)
 reportBy Verdict.Accepted file = acceptedReport file
 
 unfoldable pub report : List ℕ → List ℕ
@@ -99,5 +106,5 @@ report file = reportBy (verdict file) file
 
 -- this page's definitions, for a proof that computes with them
 unfoldable pub report-opened : Unit {0}
-unfolding outRoom hexGlyph standsAsItself shown shownAll field setUp runEntry entryLine entryLines acceptedReport reportBy report
+unfolding outRoom hexGlyph standsAsItself shown shownAll field setUp runEntry entryLine entryLines acceptedReport refusedLine reportBy report
 report-opened = tt

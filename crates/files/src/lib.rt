@@ -6,12 +6,12 @@ ghost use mathlib.Core.Path.{_≡_};
 ghost use mathlib.Core.List.{_++_};
 ghost use Prim.Native.Nat.{_+_, _<_, _≤_};
 ghost use lib.Dec.{leb};
-ghost use lib.ListN.{length, drop};
+ghost use lib.ListN.{length, getD, drop};
 ghost use Rattle.rules.specs.Octets.{decimal};
 ghost use Rattle.output.specs.Buffer.{placed, placeAfter, PlacedInRoom};
-ghost use Rattle.files.specs.Table.{pairAt, entryOf, goodEntry, verdict};
-ghost use Rattle.files.specs.Report.{hexGlyph, standsAsItself, shown, field, entryLine};
-ghost use Rattle.files.specs.Parts.{roomAfter, headerLine, doneOf};
+ghost use Rattle.files.specs.Contents.{pairAt, entryOf, goodEntry, verdict};
+ghost use Rattle.files.specs.Report.{hexGlyph, standsAsItself, shown, field, entryLine, headerLine};
+ghost use Rattle.files.specs.Parts.{roomAfter, doneOf};
 
 // A session file is refused with number 7 or 8, or it is one.
 pub enum Verdict {
@@ -20,13 +20,25 @@ pub enum Verdict {
     Accepted,
 }
 
+// An octet of the file; past its end they count as 0.
+fn octet_at(file: &[u8], at: usize) -> u8
+    ensures { λ r. ⌜ r ≡ getD (now (file .entry)) at 0 ⌝ }
+{
+    if file.len() <= at {
+        return 0;
+    }
+    file[at]
+}
+
 // The number of the two octets at a place, high octet first.
-fn pair_at(file: &[u8], at: usize) -> usize
-    requires { ⌜ at + 1 < length (now file) ⌝ }
+pub fn pair_at(file: &[u8], at: usize) -> usize
     ensures { λ r. ⌜ r ≡ pairAt (now (file .entry)) at ⌝ }
     ensures { λ r. ⌜ r < 65536 ⌝ }
 {
-    file[at] as usize * 256 + file[at + 1] as usize
+    if file.len() <= at {
+        return 0;
+    }
+    octet_at(file, at) as usize * 256 + octet_at(file, at + 1) as usize
 }
 
 // Whether the entry whose four octets stand at a place is right by itself.
@@ -227,7 +239,7 @@ pub fn put_header(out: &mut [u8], at: usize, count: u16) -> usize
 }
 
 // Whether the line of an entry has room from `at` on in a buffer of this size.
-fn line_fits(
+pub fn line_fits(
     size: usize,
     at: usize,
     n: u16,

@@ -2,10 +2,11 @@
 use mathlib.Core.Path.{_≡_, sym, _∙_}
 use Prim.Native.Nat.{_+_, _-_, _*_, _≤_}
 use native.Mathlib.Omega.{arith}
+use borrow.Author.Needs.{needs}
 use borrow.Author.Tests.{not-true, not-false}
 use lib.ListN.{length, drop}
 use Rattle.octets.proofs.Ranges.{is-below, is-above}
-use Rattle.files.specs.Table.{entries, verdict}
+use Rattle.files.specs.Contents.{entries, verdict}
 use Rattle.files.proofs.Tables.{judged, no-count, wrong-count, table-cut, no-setup, wrong-setup, after-setup, setup-again, entry-wrong, entry-right, total-right, total-wrong}
 use Rattle.files.proofs.judge.Statement.{statement}
 use Rattle.files.proofs.judge.Tie as tie
@@ -21,7 +22,7 @@ returns : tie.Need-returns Inv-loop μ-loop
 returns c = sym (no-count (c .before .before .args .file .now) (c .if1 .taken))
 
 pair-at-requires : tie.Need-pair-at-requires Inv-loop μ-loop
-pair-at-requires c κs = omega arith
+pair-at-requires c κs = search needs
 
 returns-2 : tie.Need-returns-2 Inv-loop μ-loop
 returns-2 c =
@@ -66,7 +67,7 @@ returns-6 c =
     sym (wrong-setup (a .file .now) (p .pair-at .result) (p .before .if1 .left) (p .pair-at .ensures .0) (c .before .before .before .before .before .before .if2 .left) (c .before .before .before .before .before .if3 .left) (c .before .before .before .before .if4 .left) (sym (c .before .good-entry .ensures) ∙ not-true _ (c .if6 .taken)))
 
 pair-at-requires-2 : tie.Need-pair-at-requires-2 Inv-loop μ-loop
-pair-at-requires-2 c κs = omega arith
+pair-at-requires-2 c κs = search needs
 
 add-total : tie.Need-add-total Inv-loop μ-loop
 add-total c = omega arith
@@ -106,7 +107,7 @@ add-pair-at : tie.Need-add-pair-at Inv-loop μ-loop
 add-pair-at c = omega arith
 
 pair-at-requires-3 : tie.Need-pair-at-requires-3 Inv-loop μ-loop
-pair-at-requires-3 c κs = omega arith
+pair-at-requires-3 c κs = search needs
 
 add-total-2 : tie.Need-add-total-2 Inv-loop μ-loop
 add-total-2 c = omega arith

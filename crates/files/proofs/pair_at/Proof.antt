@@ -1,50 +1,52 @@
--- `files::pair_at` meets its contract: each octet is below 256.
-use mathlib.Core.Path.{refl}
+-- `files::pair_at` meets its contract: an octet is below 256, and 0 past the end.
 use native.Mathlib.Omega.{arith}
-use Prim.Native.Nat.{_+_}
+use Rattle.files.proofs.Tables.{past-end, high-low}
 use borrow.Author.Needs.{needs}
-use Rattle.files.specs.Table.{pairAt}
 use Rattle.files.proofs.pair_at.Statement.{statement}
 use Rattle.files.proofs.pair_at.Tie as tie
 
-shared-slice-read-result : tie.Need-shared-slice-read-result
-shared-slice-read-result c = search needs
+returns : tie.Need-returns
+returns c =
+    let a = c .before .before .args in
+    (past-end (a .file .now) (a .at) (c .if1 .taken), omega arith)
+
+octet-at-requires : tie.Need-octet-at-requires
+octet-at-requires c κs = search needs
 
 cast-result : tie.Need-cast-result
-cast-result c = omega (arith, c .shared-slice-known .given (c .before .args .at))
+cast-result c = search needs
 
 mul-result : tie.Need-mul-result
-mul-result c = omega (arith, c .shared-slice-known .given (c .before .args .at))
+mul-result c = search needs
+
+add-octet-at : tie.Need-add-octet-at
+add-octet-at c = search needs
+
+octet-at-requires-2 : tie.Need-octet-at-requires-2
+octet-at-requires-2 c κs = search needs
+
+cast-result-2 : tie.Need-cast-result-2
+cast-result-2 c = search needs
 
 add-result : tie.Need-add-result
 add-result c = search needs
 
-shared-slice-read-result-2 : tie.Need-shared-slice-read-result-2
-shared-slice-read-result-2 c = search needs
-
-cast-result-2 : tie.Need-cast-result-2
-cast-result-2 c = omega (arith, c .shared-slice-known2 .given (c .before .before .args .at + 1))
-
-add-result-2 : tie.Need-add-result-2
-add-result-2 c =
-    omega (arith, c .shared-slice-known2 .given (c .before .before .args .at), c .shared-slice-known2 .given (c .before .before .args .at + 1))
-
-returns : tie.Need-returns
-unfolding pairAt
-returns c = (
-  refl,
-  omega (arith, c .shared-slice-known2 .given (c .before .before .args .at), c .shared-slice-known2 .given (c .before .before .args .at + 1)),
-)
+returns-2 : tie.Need-returns-2
+returns-2 c =
+    let high = c .before .octet-at in
+    let low = c .octet-at2 in
+    (high-low _ _ (high .ensures) (low .ensures), omega arith)
 
 pub pair-at-spec : {M : Type 1} → statement M
 pair-at-spec =
     tie.close
     (tie.spec
-    shared-slice-read-result
+    returns
+    octet-at-requires
     cast-result
     mul-result
-    add-result
-    shared-slice-read-result-2
+    add-octet-at
+    octet-at-requires-2
     cast-result-2
-    add-result-2
-    returns)
+    add-result
+    returns-2)

@@ -3,7 +3,7 @@ use mathlib.Core.List.{_++_}
 use native.Mathlib.Omega.{arith}
 use Rattle.rules.specs.Octets.{oct, decimal}
 use Rattle.output.proofs.Placing.{no-room, joined}
-use Rattle.files.specs.Parts.{headerLine}
+use Rattle.files.specs.Report.{headerLine}
 use Rattle.files.proofs.Fields.{header-length}
 use borrow.Author.Needs.{needs}
 use Rattle.files.proofs.put_header.Statement.{statement}

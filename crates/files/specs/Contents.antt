@@ -72,7 +72,13 @@ verdict file =
     (choose (not (goodTable (tableOf file))) Verdict.WrongTable
     (choose (eqb (length file) (tableEnd file + bodiesLength (tableOf file))) Verdict.Accepted Verdict.WrongLength))))
 
+-- "`REFUSED 7` (file length not what the table says, table cut) or `REFUSED 8` (count, kind, order, zero octet or length wrong)"
+unfoldable pub verdictNumber : Verdict → ℕ
+verdictNumber Verdict.Accepted = 0
+verdictNumber Verdict.WrongLength = 7
+verdictNumber Verdict.WrongTable = 8
+
 -- this page's definitions, for a proof that computes with them
-unfoldable pub table-opened : Unit {0}
-unfolding pairAt entryOf entries count tableEnd tableOf goodLength goodEntry noSetups goodTable bodiesLength verdict
-table-opened = tt
+unfoldable pub contents-opened : Unit {0}
+unfolding verdictNumber pairAt entryOf entries count tableEnd tableOf goodLength goodEntry noSetups goodTable bodiesLength verdict
+contents-opened = tt

@@ -1,0 +1,21 @@
+-- What the code keeps of an entry that it ran.
+use mathlib.Core.List.{List}
+use Prim.Native.Nat.{ℕ}
+use lib.ListN.{length}
+use Rattle.rules.specs.Answers.{answerNumber}
+use Rattle.session.specs.declared.Called.{Called}
+use Rattle.files.specs.Report.{Done}
+use Rattle.report.specs.declared.Ran.{Ran}
+
+-- how much was written stands for what was written, which lies in the buffers
+unfoldable pub ranBy : Done → Ran
+ranBy d =
+    record {
+      taken = d .taken;
+      answer = d .number;
+      written = record { server = length (d .toServer); client = length (d .toClient) };
+      session = d .session;
+    }
+
+unfoldable pub ranOf : Called → Ran
+ranOf c = record { taken = c .taken; answer = answerNumber (c .answer); written = c .written; session = c .session }
