@@ -1,0 +1,480 @@
+//! Sessions and lists of calls by seed.
+
+use crate::gateways::{Gateway, Reference};
+use crate::lines;
+use crate::random::Random;
+use crate::session::{
+    Call, Rooms, Session, Setup, What, CLIENT_ADDRESS, FULL_ROOM, LONGEST_BODY, MAPPED_ADDRESS,
+    MOST_ENTRIES,
+};
+
+const CLIENT: u8 = 0;
+const SERVER: u8 = 1;
+
+/// Everything on, most of the time.
+const FLAGS: [u8; 11] = [7, 7, 7, 7, 7, 7, 1, 3, 6, 2, 0];
+const ROOMS: [usize; 20] = [
+    0, 0, 1, 2, 5, 6, 10, 40, 48, 100, 511, 512, 513, 600, 1279, 1280, 1281, 4096, FULL_ROOM,
+    FULL_ROOM,
+];
+
+/// A session that a session file can hold: full rooms, at most 48 entries.
+pub fn session(seed: u64) -> Session {
+    let mut random = Random::new(seed);
+    let setup = setup(&mut random, 2);
+    let mut talk = Talk::begin(setup);
+    for _ in 0..random.between(2, 11) {
+        talk.step(&mut random);
+    }
+    let mut calls = cut(&mut random, LONGEST_BODY, talk.calls);
+    calls.truncate(MOST_ENTRIES - 1);
+    Session { setup, calls }
+}
+
+/// A list of calls with small rooms, unknown directions and calls after ends. Some that stop are
+/// called again with the rest, as a host does.
+pub fn list(seed: u64) -> Session {
+    let mut random = Random::new(!seed);
+    let setup = setup(&mut random, 8);
+    let mut talk = Talk::begin(setup);
+    for _ in 0..random.between(2, 11) {
+        talk.step(&mut random);
+    }
+    if random.percent(5) {
+        talk.longest_line(&mut random);
+    }
+    let mut calls = cut(&mut random, usize::MAX, talk.calls);
+    let small = random.percent(80);
+    for call in &mut calls {
+        if small && random.percent(40) {
+            call.rooms = rooms(&mut random);
+        }
+        if random.percent(2) {
+            call.direction = random.pick(&[2, 3, 128, 255]);
+        }
+    }
+    let calls = with_rests(&mut random, setup, calls);
+    Session { setup, calls }
+}
+
+/// `wrong` of a hundred setups have any flags at all.
+fn setup(random: &mut Random, wrong: usize) -> Setup {
+    let mut client = CLIENT_ADDRESS;
+    if random.percent(30) {
+        client = [0; 16];
+        for _ in 0..random.between(0, 16) {
+            client[random.below(16)] = random.octet();
+        }
+    }
+    let flags = if random.percent(wrong) {
+        random.octet()
+    } else {
+        random.pick(&FLAGS)
+    };
+    let mapped = if random.percent(30) {
+        [0; 4].map(|_: u8| random.octet())
+    } else {
+        MAPPED_ADDRESS
+    };
+    Setup {
+        client,
+        mapped,
+        flags,
+    }
+}
+
+fn rooms(random: &mut Random) -> Rooms {
+    Rooms {
+        server: random.pick(&ROOMS),
+        client: random.pick(&ROOMS),
+    }
+}
+
+/// Two that talk to each other, line by line; not always to the point.
+struct Talk {
+    client: [u8; 16],
+    calls: Vec<Call>,
+}
+
+impl Talk {
+    fn begin(setup: Setup) -> Talk {
+        Talk {
+            client: setup.client,
+            calls: Vec::new(),
+        }
+    }
+
+    fn says(&mut self, direction: u8, octets: &[u8]) {
+        self.calls.push(Call::arrival(direction, octets));
+    }
+
+    fn says_line(&mut self, random: &mut Random, direction: u8, content: &[u8]) {
+        let line = [content, lines::line_end(random)].concat();
+        self.says(direction, &line);
+    }
+
+    fn step(&mut self, random: &mut Random) {
+        if self.calls.is_empty() && random.percent(85) {
+            self.greeting(random);
+        }
+        match random.below(100) {
+            0..=22 => self.exchange(random),
+            23..=43 => self.passive_exchange(random),
+            44..=49 => self.one_sided(random),
+            50..=58 => self.own_answer(random),
+            59..=66 => self.many_commands(random),
+            67..=74 => self.auth(random),
+            75..=86 => self.long_line(random),
+            87..=90 => self.many_replies(random),
+            91..=95 => self.ends(random),
+            _ => self.says(random.below(2) as u8, b""),
+        }
+    }
+
+    fn greeting(&mut self, random: &mut Random) {
+        match random.below(10) {
+            0 => {
+                let reply = lines::long_reply(random, b"220 hi");
+                self.says(SERVER, &reply);
+            }
+            1 => {
+                let reply = lines::reply(random);
+                self.says_line(random, SERVER, &reply);
+            }
+            _ => self.says(SERVER, b"220 hi\r\n"),
+        }
+    }
+
+    fn exchange(&mut self, random: &mut Random) {
+        let command = lines::command(random, self.client);
+        self.says_line(random, CLIENT, &command);
+        let reply = lines::final_reply(random);
+        self.says_line(random, SERVER, &reply);
+    }
+
+    /// EPSV and the server's answer to PASV; now and then PASV of the client's own.
+    fn passive_exchange(&mut self, random: &mut Random) {
+        let command = match random.below(10) {
+            0 => b"PASV".to_vec(),
+            1..=4 => lines::epsv(random),
+            _ => b"EPSV".to_vec(),
+        };
+        self.says_line(random, CLIENT, &command);
+        let passive = lines::passive(random);
+        match random.below(12) {
+            0 => {
+                let reply = lines::long_reply(random, &passive);
+                self.says(SERVER, &reply);
+            }
+            1 => {
+                self.says(SERVER, b"150 wait\r\n");
+                self.says_line(random, SERVER, &passive);
+            }
+            2 => {
+                let line = lines::filled(random, &passive);
+                self.says(SERVER, &line);
+            }
+            3 => self.says_line(random, SERVER, b"500 no"),
+            _ => self.says_line(random, SERVER, &passive),
+        }
+    }
+
+    fn one_sided(&mut self, random: &mut Random) {
+        if random.percent(50) {
+            let command = lines::command(random, self.client);
+            self.says_line(random, CLIENT, &command);
+        } else {
+            let reply = lines::reply(random);
+            self.says_line(random, SERVER, &reply);
+        }
+    }
+
+    /// A command that the gateway answers itself, at times inside a reply or behind others.
+    fn own_answer(&mut self, random: &mut Random) {
+        if random.percent(30) {
+            self.says(
+                SERVER,
+                random.pick(&[&b"211-x\r\n"[..], b"hello\r\n", b"22"]),
+            );
+        }
+        if random.percent(30) {
+            self.says(CLIENT, b"NOOP\r\n");
+        }
+        let command = match random.below(3) {
+            0 => random.pick(&[&b"EPSV 1"[..], b"EPSV ALL"]).to_vec(),
+            _ => lines::algs(random),
+        };
+        self.says_line(random, CLIENT, &command);
+        for _ in 0..random.below(3) {
+            self.says(
+                SERVER,
+                random.pick(&[&b"200 ok\r\n"[..], b"0 x\r\n", b"211 x\r\n"]),
+            );
+        }
+    }
+
+    /// Up to more than sixteen at once, in one arrival.
+    fn many_commands(&mut self, random: &mut Random) {
+        let command = random.pick(&[&b"NOOP\r\n"[..], b"ALGS STATUS64\r\n", b"EPSV\r\n", b"\n"]);
+        let mut octets = command.repeat(random.between(10, 20));
+        if random.percent(30) {
+            let last = lines::command(random, self.client);
+            octets.extend(last);
+            octets.extend(lines::line_end(random));
+        }
+        if random.percent(20) {
+            octets.extend(b"AUTH TLS\r\n");
+        }
+        self.says(CLIENT, &octets);
+        if random.percent(60) {
+            self.many_replies(random);
+        }
+    }
+
+    fn many_replies(&mut self, random: &mut Random) {
+        let passive = b"227 x (192,0,2,31,237,19)\r\n";
+        let reply = random.pick(&[&b"200 ok\r\n"[..], b"200 ok\r\n", b"500 no\r\n", passive]);
+        let octets = reply.repeat(random.between(1, 18));
+        self.says(SERVER, &octets);
+    }
+
+    /// AUTH, at times behind owed replies and with server octets held, and what follows it.
+    fn auth(&mut self, random: &mut Random) {
+        if random.percent(40) {
+            self.exchange(random);
+            self.says(SERVER, random.pick(&[&b""[..], b"23", b"227 x (1,2,3"]));
+        }
+        let command = lines::auth(random);
+        if random.percent(15) {
+            let line = lines::filled(random, &command);
+            self.says(CLIENT, &line);
+        } else {
+            self.says_line(random, CLIENT, &command);
+        }
+        let reply = lines::auth_reply(random);
+        self.says_line(random, SERVER, &reply);
+        for _ in 0..random.below(4) {
+            let side = random.below(2) as u8;
+            self.says(
+                side,
+                random.pick(&[
+                    &b"\x16\x03\x01"[..],
+                    b"EPSV\r\n",
+                    b"2",
+                    b"227 x (1,2,3,4,5,6)\r\n",
+                ]),
+            );
+        }
+    }
+
+    fn long_line(&mut self, random: &mut Random) {
+        if random.percent(50) {
+            let start = match random.below(4) {
+                0 => lines::auth(random),
+                1 => b"EPSV".to_vec(),
+                _ => lines::command(random, self.client),
+            };
+            let line = lines::filled(random, &start);
+            self.says(CLIENT, &line);
+        } else {
+            let start = lines::reply(random);
+            let line = lines::filled(random, &start);
+            self.says(SERVER, &line);
+        }
+    }
+
+    /// Longer than an entry of a session file may be, and than the room for it.
+    fn longest_line(&mut self, random: &mut Random) {
+        let mut line = b"NOOP ".to_vec();
+        line.resize(random.between(2000, 20000), b'x');
+        line.extend(b"\r\n");
+        let place = random.below(self.calls.len() + 1);
+        let call = Call::arrival(random.below(2) as u8, &line);
+        self.calls.insert(place, call);
+    }
+
+    /// With octets held, more often than not.
+    fn ends(&mut self, random: &mut Random) {
+        let side = random.below(2) as u8;
+        if random.percent(60) {
+            self.says(
+                side,
+                random.pick(&[&b"EPS"[..], b"22", b"AUTH TLS", b"\r", b"227 x (1,2"]),
+            );
+        }
+        self.calls.push(Call::end(side));
+    }
+}
+
+/// Cuts arrivals anywhere, and lets pieces of the two directions overtake each other.
+fn cut(random: &mut Random, longest: usize, calls: Vec<Call>) -> Vec<Call> {
+    let often = random.pick(&[0, 20, 50, 90]);
+    let mut pieces = Vec::new();
+    for call in calls {
+        if call.what == What::End {
+            pieces.push(call);
+            continue;
+        }
+        let mut rest = call.octets();
+        while rest.len() > longest || (rest.len() > 1 && random.percent(often)) {
+            let most = rest.len().min(longest);
+            let most = if random.percent(40) {
+                most.min(4)
+            } else {
+                most
+            };
+            let (piece, after) = rest.split_at(random.between(1, most));
+            pieces.push(call.with_octets(piece));
+            rest = after;
+        }
+        pieces.push(call.with_octets(rest));
+    }
+    for place in 1..pieces.len() {
+        if pieces[place - 1].direction != pieces[place].direction && random.percent(often / 4) {
+            pieces.swap(place - 1, place);
+        }
+    }
+    pieces
+}
+
+/// After a call that stopped, its rest arrives again, more often than not.
+fn with_rests(random: &mut Random, setup: Setup, calls: Vec<Call>) -> Vec<Call> {
+    let (mut reference, _) = Reference::setup(&setup);
+    let mut all = Vec::new();
+    for call in calls {
+        let mut next = Some(call);
+        while let Some(call) = next.take() {
+            let seen = reference.call(&call);
+            if matches!(seen.answer, 1 | 2) && random.percent(70) {
+                let mut rest = call.clone();
+                if let What::Arrival(octets) = &call.what {
+                    rest = call.with_octets(&octets[seen.taken..]);
+                }
+                rest.rooms = rooms(random);
+                next = Some(rest);
+            }
+            all.push(call);
+        }
+    }
+    all
+}
+
+#[cfg(test)]
+mod tests {
+    use super::*;
+    use crate::gateways::Seen;
+
+    const MANY: u64 = 2000;
+
+    /// What a session comes to, as far as it can be seen from outside.
+    #[derive(Default)]
+    struct Reached {
+        answers: [bool; 7],
+        extended_passive: bool,
+        port_line: bool,
+        own_answer: bool,
+        passes_at_once: [bool; 2],
+        flows: [bool; 2],
+        held_at_end: bool,
+    }
+
+    fn contains(octets: &[u8], text: &[u8]) -> bool {
+        octets.windows(text.len()).any(|part| part == text)
+    }
+
+    impl Reached {
+        fn of(session: &Session) -> Reached {
+            let (mut reference, seen) = Reference::setup(&session.setup);
+            let mut reached = Reached::default();
+            reached.answers[usize::from(seen.answer)] = true;
+            let mut unfinished = [0; 2];
+            for call in &session.calls {
+                let seen = reference.call(call);
+                reached.look(call, &seen);
+                if call.direction < 2 {
+                    let side = usize::from(call.direction);
+                    reached.look_at_line(side, &mut unfinished[side], call, &seen);
+                }
+            }
+            reached
+        }
+
+        fn look(&mut self, call: &Call, seen: &Seen) {
+            self.answers[usize::from(seen.answer)] = true;
+            self.extended_passive |= contains(&seen.to_client, b"229 Entering Extended");
+            self.port_line |=
+                contains(&seen.to_server, b"PORT ") && !contains(call.octets(), b"PORT ");
+            let own = [&b"522 Net"[..], b"504 Com", b"216 NONE", b"216 EP"];
+            self.own_answer |= own.iter().any(|line| contains(&seen.to_client, line));
+            let wrote = !seen.to_server.is_empty() || !seen.to_client.is_empty();
+            self.held_at_end |= call.what == What::End && wrote;
+        }
+
+        /// Octets of an unfinished line that are written: a line of 512 flows, a shorter one
+        /// passes at once.
+        fn look_at_line(&mut self, side: usize, unfinished: &mut usize, call: &Call, seen: &Seen) {
+            let taken = &call.octets()[..seen.taken];
+            let written = [&seen.to_server, &seen.to_client][side];
+            let line = taken
+                .rsplit(|&octet| octet == b'\n')
+                .next()
+                .unwrap_or(taken);
+            let whole = line.len() == taken.len();
+            *unfinished = if whole {
+                *unfinished + line.len()
+            } else {
+                line.len()
+            };
+            if !line.is_empty() && written.ends_with(line) {
+                self.flows[side] |= *unfinished >= 512;
+                self.passes_at_once[side] |= *unfinished < 512;
+            }
+        }
+    }
+
+    /// Asks that at least 5 of 100 come to it.
+    fn often(name: &str, all: &[Reached], reached: impl Fn(&Reached) -> bool) {
+        let count = all.iter().filter(|one| reached(one)).count();
+        println!("{name}: {count} of {}", all.len());
+        assert!(count * 20 >= all.len(), "{name}: {count} of {}", all.len());
+    }
+
+    fn everything_often(all: &[Reached]) {
+        often("a 229", all, |one| one.extended_passive);
+        often("an EPRT translated", all, |one| one.port_line);
+        often("an own answer", all, |one| one.own_answer);
+        often("the client passes at once", all, |one| {
+            one.passes_at_once[0]
+        });
+        often("the server passes at once", all, |one| {
+            one.passes_at_once[1]
+        });
+        often("a client line flows", all, |one| one.flows[0]);
+        often("a server line flows", all, |one| one.flows[1]);
+        often("an end with octets held", all, |one| one.held_at_end);
+        often("answer 1", all, |one| one.answers[1]);
+        often("answer 6", all, |one| one.answers[6]);
+    }
+
+    #[test]
+    fn sessions_come_to_everything() {
+        let all: Vec<Reached> = (1..=MANY).map(|seed| Reached::of(&session(seed))).collect();
+        everything_often(&all);
+    }
+
+    #[test]
+    fn lists_come_to_everything() {
+        let all: Vec<Reached> = (1..=MANY).map(|seed| Reached::of(&list(seed))).collect();
+        everything_often(&all);
+        for answer in [2, 3, 4, 5] {
+            often(&format!("answer {answer}"), &all, |one| one.answers[answer]);
+        }
+    }
+
+    #[test]
+    fn sessions_are_files_and_their_own() {
+        assert!((1..=MANY).all(|seed| session(seed).file().is_some()));
+        assert_eq!(session(3), session(3));
+        assert_ne!(session(3), session(4));
+    }
+}

@@ -1,0 +1,355 @@
+//! Lines that matter, by chance: commands with good, odd and bad arguments, replies in many
+//! shapes, lengths around those that the rules name.
+
+use std::net::Ipv6Addr;
+
+use crate::random::Random;
+
+/// What a line may end with beside CR LF; a CR alone leaves it unfinished.
+const ENDINGS: [&[u8]; 10] = [
+    b"\n", b"\n", b"\n", b"\n", b"\r\r\n", b" \r\n", b"\t\r\n", b"\0\r\n", b"\r", b"\n\r",
+];
+const EPSV_ARGUMENTS: [&[u8]; 26] = [
+    b"",
+    b"",
+    b"",
+    b"",
+    b" ",
+    b" 2",
+    b" 2",
+    b" 02",
+    b"   2  ",
+    b" 1",
+    b" 1",
+    b" 3",
+    b" 0",
+    b" 20",
+    b" ALL",
+    b"  all ",
+    b" ALL x",
+    b" ALLX",
+    b" 2 2",
+    b" x",
+    b"\t2",
+    b"X",
+    b" 2a",
+    b" -2",
+    b" 4294967298",
+    b" 18446744073709551618",
+];
+const ALGS_ARGUMENTS: [&[u8]; 12] = [
+    b" STATUS64",
+    b" STATUS64",
+    b" ENABLE64",
+    b" ENABLE64",
+    b" DISABLE64",
+    b"  status64  ",
+    b"",
+    b" ",
+    b" STATUS64 x",
+    b" STATUS6",
+    b"X STATUS64",
+    b"\tSTATUS64",
+];
+const AUTH_LINES: [&[u8]; 8] = [
+    b"AUTH TLS",
+    b"AUTH TLS",
+    b"AUTH",
+    b"AUTH ",
+    b"AUTH SSL ",
+    b"AUTHX",
+    b" AUTH TLS",
+    b"AUTH\tTLS",
+];
+const OTHER_COMMANDS: [&[u8]; 16] = [
+    b"NOOP",
+    b"NOOP",
+    b"USER anonymous",
+    b"PASS x",
+    b"PASV",
+    b"PASV",
+    b"PORT 192,0,2,31,20,162",
+    b"QUIT",
+    b"",
+    b" ",
+    b" EPSV",
+    b"EPS",
+    b"\xff\xf4\xff\xf2ABOR",
+    b"\xc5PSV",
+    b"\0",
+    b"LANG en",
+];
+const DELIMITERS: [u8; 12] = *b"||||!,.2:a~/";
+const PROTOCOLS: [&[u8]; 8] = [b"2", b"2", b"2", b"2", b"2", b"1", b"02", b""];
+const PORTS: [&[u8]; 14] = [
+    b"5282", b"5282", b"21", b"1", b"256", b"65535", b"00021", b"0", b"65536", b"000021", b"",
+    b"99999", b"-1", b"21x",
+];
+/// What may follow the fourth delimiter.
+const EPRT_TAILS: [&[u8]; 8] = [b"", b"", b"", b"", b"", b"  ", b"x", b"|"];
+
+const FINAL_REPLIES: [&[u8]; 14] = [
+    b"200 ok",
+    b"200 ok",
+    b"226 done",
+    b"230 in",
+    b"331 who",
+    b"421 bye",
+    b"500 no",
+    b"502 no",
+    b"550 no",
+    b"220 hi",
+    b"257 \"/\"",
+    b"215 UNIX",
+    b"200",
+    b"530 ",
+];
+const ODD_REPLIES: [&[u8]; 20] = [
+    b"150 wait",
+    b"125 wait",
+    b"120",
+    b"100-wait",
+    b"600 x",
+    b"099 y",
+    b"220x",
+    b"220-multi",
+    b"211-status",
+    b" mid",
+    b"",
+    b"hello",
+    b"22",
+    b"2200 x",
+    b"2a0 x",
+    b"\xff220 x",
+    b"234 go",
+    b"334 more",
+    b"229 x (|||5|)",
+    b"\t220 x",
+];
+const AUTH_REPLIES: [&[u8]; 8] = [
+    b"234 go",
+    b"234 go",
+    b"334 more",
+    b"500 no",
+    b"534 no",
+    b"421 bye",
+    b"234-go",
+    b"150 wait",
+];
+/// What stands between the code and the first number.
+const PASSIVE_STARTS: [&[u8]; 9] = [
+    b" Entering Passive Mode (",
+    b" Entering Passive Mode (",
+    b" =",
+    b" ",
+    b" x(",
+    b" (",
+    b" 4 (",
+    b"\t",
+    b"",
+];
+const PASSIVE_TAILS: [&[u8]; 9] = [b")", b")", b").", b"", b" x", b",7", b"7", b"x", b"\0"];
+const PASSIVE_NUMBERS: [&[u8]; 9] = [
+    b"256", b"0255", b"1000", b"", b"x", b"001", b"0", b" 1", b"255",
+];
+
+pub fn line_end(random: &mut Random) -> &'static [u8] {
+    if random.percent(70) {
+        b"\r\n"
+    } else {
+        random.pick(&ENDINGS)
+    }
+}
+
+/// Letters in either case.
+fn in_any_case(random: &mut Random, text: &[u8]) -> Vec<u8> {
+    let mix = random.percent(30);
+    let mut flip = |octet: u8| mix && octet.is_ascii_alphabetic() && random.percent(50);
+    text.iter()
+        .map(|&octet| if flip(octet) { octet ^ 32 } else { octet })
+        .collect()
+}
+
+fn garbage(random: &mut Random) -> Vec<u8> {
+    let length = random.between(1, 30);
+    (0..length).map(|_| random.octet()).collect()
+}
+
+/// A client's line without its end.
+pub fn command(random: &mut Random, client: [u8; 16]) -> Vec<u8> {
+    match random.below(20) {
+        0..=6 => epsv(random),
+        7..=11 => eprt(random, client),
+        12..=14 => algs(random),
+        15..=18 => in_any_case_of(random, &OTHER_COMMANDS),
+        _ => garbage(random),
+    }
+}
+
+fn in_any_case_of(random: &mut Random, texts: &[&[u8]]) -> Vec<u8> {
+    let text = random.pick(texts);
+    in_any_case(random, text)
+}
+
+pub fn epsv(random: &mut Random) -> Vec<u8> {
+    if random.percent(4) {
+        let zeros = vec![b'0'; random.between(1, 503)];
+        return [&b"EPSV "[..], &zeros, random.pick(&[&b"2"[..], b"1", b""])].concat();
+    }
+    let argument = random.pick(&EPSV_ARGUMENTS);
+    in_any_case(random, &[b"EPSV", argument].concat())
+}
+
+pub fn algs(random: &mut Random) -> Vec<u8> {
+    let argument = random.pick(&ALGS_ARGUMENTS);
+    in_any_case(random, &[b"ALGS", argument].concat())
+}
+
+pub fn auth(random: &mut Random) -> Vec<u8> {
+    in_any_case_of(random, &AUTH_LINES)
+}
+
+/// Good in every part at first; then, for about half of them, one part by chance.
+pub fn eprt(random: &mut Random, client: [u8; 16]) -> Vec<u8> {
+    let mut delimiter = b'|';
+    let mut protocol = &b"2"[..];
+    let mut address = good_address(random, client);
+    let mut port = &b"5282"[..];
+    let mut tail = &b""[..];
+    match random.below(10) {
+        0 => delimiter = random.pick(&DELIMITERS),
+        1 => protocol = random.pick(&PROTOCOLS),
+        2 | 3 => address = odd_address(random, client),
+        4 | 5 => port = random.pick(&PORTS),
+        6 => tail = random.pick(&EPRT_TAILS),
+        _ => {}
+    }
+    let mut line = in_any_case(random, b"EPRT ");
+    for field in [protocol, &address, port] {
+        line.push(delimiter);
+        line.extend(field);
+    }
+    line.push(delimiter);
+    line.extend(tail);
+    line
+}
+
+/// Groups in hexadecimal, each of at least `width` digits.
+fn groups_text(groups: &[u16], width: usize) -> String {
+    let texts: Vec<String> = groups.iter().map(|g| format!("{g:0width$x}")).collect();
+    texts.join(":")
+}
+
+/// The client's address in one of the shapes that IPv6 text has.
+fn good_address(random: &mut Random, client: [u8; 16]) -> Vec<u8> {
+    let address = Ipv6Addr::from(client);
+    let groups = address.segments();
+    let [.., a, b, c, d] = client;
+    let text = match random.below(6) {
+        0 => groups_text(&groups, 1),
+        1 => groups_text(&groups, 4).to_uppercase(),
+        2 => format!("{}:{a}.{b}.{c}.{d}", groups_text(&groups[..6], 1)),
+        3 => {
+            let front = groups_text(&groups[..6], 3);
+            format!("{front}:{a:03}.{b:03}.{c:03}.{d:03}")
+        }
+        _ => address.to_string(),
+    };
+    text.into_bytes()
+}
+
+/// Dotted numbers in front, where they may not stand; the value would be the client's address if
+/// its third group is zero.
+fn dotted_in_front(client: [u8; 16]) -> Vec<u8> {
+    let [a, b, c, d, ..] = client;
+    let rest = groups_text(&Ipv6Addr::from(client).segments()[3..], 1);
+    format!("{a}.{b}.{c}.{d}::{rest}").into_bytes()
+}
+
+/// Something wrong with an address, or another one.
+fn odd_address(random: &mut Random, client: [u8; 16]) -> Vec<u8> {
+    let mut text = good_address(random, client);
+    match random.below(10) {
+        0 => text.extend(b"%1"),
+        1 => text.extend(b"/64"),
+        2 => text = b"2001:db8:2::32".to_vec(),
+        3 => text = b"192.0.2.31".to_vec(),
+        4 => text.extend(b":"),
+        5 => text.extend(b"::"),
+        6 => text.insert(0, b':'),
+        7 => text.insert(0, b'0'),
+        8 => text = dotted_in_front(client),
+        _ => {
+            let place = random.below(text.len());
+            text[place] = random.pick(b":.0fFgx1 ");
+        }
+    }
+    text
+}
+
+/// A server's line without its end.
+pub fn reply(random: &mut Random) -> Vec<u8> {
+    match random.below(10) {
+        0..=3 => random.pick(&FINAL_REPLIES).to_vec(),
+        4..=6 => random.pick(&ODD_REPLIES).to_vec(),
+        7 | 8 => passive(random),
+        _ => garbage(random),
+    }
+}
+
+pub fn final_reply(random: &mut Random) -> Vec<u8> {
+    random.pick(&FINAL_REPLIES).to_vec()
+}
+
+pub fn auth_reply(random: &mut Random) -> Vec<u8> {
+    random.pick(&AUTH_REPLIES).to_vec()
+}
+
+/// A 227 as servers write it, most of the time.
+pub fn passive(random: &mut Random) -> Vec<u8> {
+    let mut start = PASSIVE_STARTS[0];
+    let mut tail = PASSIVE_TAILS[0];
+    let (high, low) = (random.octet().to_string(), random.octet().to_string());
+    let mut numbers: Vec<&[u8]> = vec![b"192", b"0", b"2", b"31", high.as_bytes(), low.as_bytes()];
+    let mut between = &b","[..];
+    match random.below(12) {
+        0 | 1 => start = random.pick(&PASSIVE_STARTS),
+        2 => tail = random.pick(&PASSIVE_TAILS),
+        3 => numbers[random.below(6)] = random.pick(&PASSIVE_NUMBERS),
+        4 => between = random.pick(&[&b",,"[..], b", ", b".", b""]),
+        5 => numbers.truncate(random.between(1, 5)),
+        6 => (numbers[4], numbers[5]) = (b"0", random.pick(&[&b"0"[..], b"1", b"000"])),
+        _ => {}
+    }
+    [b"227", start, &numbers.join(between), tail].concat()
+}
+
+/// A reply of several lines, each with its end; the last one may be missing.
+pub fn long_reply(random: &mut Random, last: &[u8]) -> Vec<u8> {
+    let code = last.get(..3).unwrap_or(b"211");
+    let code = if random.percent(80) { code } else { b"211" };
+    let mut lines = [code, b"-first\r\n"].concat();
+    for _ in 0..random.below(3) {
+        lines.extend(random.pick(&[&b" mid\r\n"[..], b"\r\n", b"211-x\r\n", b"mid\n"]));
+    }
+    if random.percent(90) {
+        lines.extend(last);
+        lines.extend(line_end(random));
+    }
+    lines
+}
+
+/// A line filled up to a length around 512, or well beyond.
+pub fn filled(random: &mut Random, start: &[u8]) -> Vec<u8> {
+    let length = match random.below(8) {
+        0 => random.between(600, 1500),
+        1 => random.between(480, 505),
+        _ => random.between(509, 514),
+    };
+    let end = random.pick(&[&b"\r\n"[..], b"\r\n", b"\n", b""]);
+    let filler = random.pick(b"   x");
+    let mut line = start.to_vec();
+    line.resize(length.saturating_sub(end.len()).max(start.len()), filler);
+    line.extend(end);
+    line
+}

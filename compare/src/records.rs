@@ -1,0 +1,236 @@
+//! Records that no session leads to. The reference has no record in octets, so here the rules
+//! alone are asked: what number 4 lists is refused, and nothing is written or changed.
+
+use crate::gateways::{Gateway, Ours, Seen};
+use crate::generate;
+use crate::random::Random;
+use crate::session::{Call, Session, Setup};
+use crate::text::call_text;
+
+/// Where a record has its fields: the table in docs/RECORD.md.
+mod layout {
+    pub const LIVE: usize = 0;
+    /// Five marks of 0 or 1, `live` first; two places of 0 to 3 follow.
+    pub const MARKS: usize = 5;
+    pub const CLIENT_PLACE: usize = 5;
+    pub const SERVER_PLACE: usize = 6;
+    /// Numbers of four octets, high octet first.
+    pub const OWED: usize = 7;
+    pub const CLIENT_HELD: usize = 11;
+    pub const SERVER_HELD: usize = 15;
+    /// Taken and written of direction 0, then of direction 1.
+    pub const COUNTERS: [usize; 4] = [19, 23, 27, 31];
+    pub const KINDS: usize = 55;
+}
+
+const LAST_KIND: u8 = 8;
+const MOST_OWED: usize = 16;
+const MOST_HELD: u32 = 511;
+
+fn put(record: &mut [u8], place: usize, number: u32) {
+    record[place..place + 4].copy_from_slice(&number.to_be_bytes());
+}
+
+fn number(record: &[u8], place: usize) -> u32 {
+    let octets = record[place..].first_chunk().expect("a record is longer");
+    u32::from_be_bytes(*octets)
+}
+
+/// The record after some calls of a session.
+fn reached(random: &mut Random, session: &Session) -> Vec<u8> {
+    let (mut ours, _) = Ours::setup(&session.setup);
+    for call in &session.calls[..random.below(session.calls.len() + 1)] {
+        ours.call(call);
+    }
+    ours.record().to_vec()
+}
+
+/// Makes a record into one that number 4 refuses, and says what is wrong with it.
+fn forge(random: &mut Random, record: &mut Vec<u8>) -> &'static str {
+    match random.below(10) {
+        0 => {
+            record[layout::LIVE] = 0;
+            "not live"
+        }
+        1 => {
+            record[random.below(layout::MARKS)] = random.pick(&[2, 3, 128, 255]);
+            "a mark that is neither 0 nor 1"
+        }
+        2 => {
+            record[layout::CLIENT_PLACE + random.below(2)] = random.pick(&[4, 5, 128, 255]);
+            "a place over 3"
+        }
+        3 => {
+            put(
+                record,
+                layout::OWED,
+                random.pick(&[17, 18, 272, 65536, u32::MAX]),
+            );
+            "over 16 owed"
+        }
+        4 | 5 => forge_kind(random, record),
+        6 | 7 => forge_held(random, record),
+        8 => {
+            record.truncate(random.pick(&[0, 1, 7, 500, fashlemor::RECORD - 1]));
+            "too short"
+        }
+        _ => {
+            record.fill(random.pick(&[0, 2, 255]));
+            "one octet all over"
+        }
+    }
+}
+
+fn forge_kind(random: &mut Random, record: &mut [u8]) -> &'static str {
+    let owed = random.between(1, MOST_OWED);
+    put(record, layout::OWED, owed as u32);
+    record[layout::KINDS + random.below(owed)] = random.pick(&[LAST_KIND + 1, 16, 128, 255]);
+    "an owed kind that is not listed"
+}
+
+fn forge_held(random: &mut Random, record: &mut [u8]) -> &'static str {
+    let (place, held) = random.pick(&[
+        (layout::CLIENT_PLACE, layout::CLIENT_HELD),
+        (layout::SERVER_PLACE, layout::SERVER_HELD),
+    ]);
+    if random.percent(40) {
+        record[place] = 0;
+        put(
+            record,
+            held,
+            random.pick(&[MOST_HELD + 1, 513, 65536, u32::MAX]),
+        );
+        "over 511 octets held"
+    } else {
+        record[place] = random.pick(&[1, 2, 3]);
+        put(record, held, random.pick(&[1, 5, MOST_HELD, u32::MAX]));
+        "octets held where none can be"
+    }
+}
+
+/// A call of either direction, by chance.
+fn some_call(random: &mut Random, session: &Session) -> Call {
+    let direction = random.below(2) as u8;
+    match session.calls.get(random.below(session.calls.len() + 1)) {
+        Some(call) => Call {
+            direction,
+            ..call.clone()
+        },
+        None => Call::end(direction),
+    }
+}
+
+/// What is wrong with the answer to a forged record, if anything.
+pub fn forged(seed: u64) -> Option<String> {
+    let mut random = Random::new(seed);
+    let session = generate::list(seed);
+    let mut record = reached(&mut random, &session);
+    let forgery = forge(&mut random, &mut record);
+    let call = some_call(&mut random, &session);
+    let unknown = Call {
+        direction: random.pick(&[2, 255]),
+        ..call.clone()
+    };
+    let mut ours = Ours::of_record(&record);
+    let fault = not_refused(&mut ours, &call, fashlemor::BAD_RECORD)
+        .or_else(|| not_refused(&mut ours, &unknown, fashlemor::UNKNOWN_DIRECTION));
+    fault.map(|said| format!("a record with {forgery}\n{said}"))
+}
+
+/// What a call did that should have been refused with an answer, and everything left as it was.
+fn not_refused(ours: &mut Ours, call: &Call, answer: u8) -> Option<String> {
+    let wanted = Seen {
+        answer,
+        taken: 0,
+        to_server: Vec::new(),
+        to_client: Vec::new(),
+        offsets: ours.offsets(),
+        fault: None,
+    };
+    let seen = ours.call(call);
+    let said = format!("{}\n{}", call_text(call), seen.text());
+    (seen != wanted).then_some(said)
+}
+
+/// A record with octets changed by chance may be a good one: whatever it answers, it keeps to its
+/// buffers, and a refusal changes nothing.
+pub fn shaken(seed: u64) -> Option<String> {
+    let mut random = Random::new(seed);
+    let session = generate::list(seed);
+    let mut record = reached(&mut random, &session);
+    for _ in 0..random.between(1, 4) {
+        let fields = random.pick(&[layout::KINDS, record.len()]);
+        record[random.below(fields)] = random.octet();
+    }
+    let mut ours = Ours::of_record(&record);
+    for _ in 0..3 {
+        let call = some_call(&mut random, &session);
+        let seen = ours.call(&call);
+        let refused = seen.answer >= fashlemor::UNKNOWN_DIRECTION;
+        let wrote = !seen.to_server.is_empty() || !seen.to_client.is_empty();
+        if seen.fault.is_some() || (refused && (wrote || seen.taken > 0)) {
+            let said = format!("{}\n{}", call_text(&call), seen.text());
+            return Some(format!("a record with octets changed\n{said}"));
+        }
+    }
+    None
+}
+
+/// Ours with all counters advanced by the same number, so that they wrap on the way: offsets are
+/// differences, so nothing else may be seen of it.
+pub struct NearWrap(Ours);
+
+impl Gateway for NearWrap {
+    fn setup(setup: &Setup) -> (NearWrap, Seen) {
+        let (ours, seen) = Ours::setup(setup);
+        let mut record = ours.record().to_vec();
+        if seen.answer == fashlemor::DONE {
+            for counter in layout::COUNTERS {
+                let advanced = number(&record, counter).wrapping_sub(20);
+                put(&mut record, counter, advanced);
+            }
+        }
+        (NearWrap(Ours::of_record(&record)), seen)
+    }
+
+    fn call(&mut self, call: &Call) -> Seen {
+        self.0.call(call)
+    }
+}
+
+/// Setups with addresses of other lengths and records of other lengths, the offset of an unknown
+/// direction: what `relay/fashlemor.h` says of them.
+pub fn odd_lengths() -> Option<String> {
+    let address = [1; 17];
+    for (client, mapped) in [(15, 4), (17, 4), (0, 4), (16, 3), (16, 5), (16, 0)] {
+        let mut record = [9; fashlemor::RECORD];
+        let answer = fashlemor::setup(&mut record, &address[..client], &address[..mapped], 7);
+        if answer != fashlemor::BAD_SETUP || record != [0; fashlemor::RECORD] {
+            let said = format!("addresses of {client} and {mapped} octets are answered {answer}");
+            return Some(said);
+        }
+    }
+    let mut short = [9; fashlemor::RECORD - 1];
+    let answer = fashlemor::setup(&mut short, &address[..16], &address[..4], 7);
+    if answer != fashlemor::BAD_SETUP || short != [9; fashlemor::RECORD - 1] {
+        return Some(format!("a record that is too short is answered {answer}"));
+    }
+    let unknown =
+        (2..=255).find(|&side| fashlemor::offset(&[0; fashlemor::RECORD], side).is_some());
+    unknown.map(|side| format!("there is an offset of direction {side}"))
+}
+
+#[cfg(test)]
+mod tests {
+    use super::*;
+    use crate::session::What;
+
+    #[test]
+    fn ends_are_among_the_calls() {
+        let ends = (1..=400).filter(|&seed| {
+            let session = generate::list(seed);
+            some_call(&mut Random::new(seed), &session).what == What::End
+        });
+        assert!(ends.count() >= 20);
+    }
+}
