@@ -15,7 +15,7 @@ SCOPE = ROOT / "docs" / "01-scope.md"
 TRACE = ROOT / "docs" / "TRACE.md"
 DOCUMENTS = [ROOT / "README.md", *sorted((ROOT / "docs").glob("*.md"))]
 TRACED = ["The session", "Lines", "Client lines", "Server lines", "Demand 3 written out", "Session files"]
-BELIEVED = ["rules", "kinds", "gives", "effects", "session"]
+BELIEVED = ["rules", "output", "kinds", "gives", "effects", "session", "files", "report", "image", "relay"]
 # pages that only private functions cite
 PRIVATE = {"Core", "Refused"}
 # how many words of document 01 may stand between two pieces that are traced
