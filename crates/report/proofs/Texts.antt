@@ -1,16 +1,15 @@
 -- A text that is put at the front of a buffer as a part of the report.
-use mathlib.Core.Path.{_≡_, refl, sym, ap, _∙_}
+use mathlib.Core.Path.{_≡_, refl}
 use mathlib.Core.Bool.{Bool, true, false}
-use mathlib.Core.List.{List, [], _∷_, _++_, append-nil}
-use Prim.Native.Nat.{ℕ, suc, _+_, _-_, _≤_}
+use mathlib.Core.List.{List, _++_, append-nil}
+use Prim.Native.Nat.{ℕ, _+_, _-_, _≤_}
 use native.Mathlib.Nat.{zero-add}
 use native.Mathlib.Omega.{arith}
 use lib.Dec.{eqb, leb}
-use lib.ListN.{length, drop, drop-of-length-le, length-append}
-use borrow.Author.Tests.{le-leb, lt-leb, leb-true, leb-false, eq-eqb, ne-eqb}
-use Rattle.rules.specs.Octets.{oct, choose, decimal}
-use Rattle.output.specs.Buffer.{fitsAt, placed, placeAfter}
-use Rattle.session.proofs.Placing.{front-placed}
+use lib.ListN.{length, length-append}
+use borrow.Author.Tests.{eq-eqb, ne-eqb}
+use Rattle.rules.specs.Octets.{oct, choose}
+use Rattle.output.specs.Buffer.{fitsAt, placeAfter}
 use Rattle.files.specs.Report.{Done, entryLine}
 use Rattle.files.specs.Parts.{doneOf}
 use Rattle.files.proofs.Fields.{line-of-parts, line-length}
@@ -18,11 +17,6 @@ use Rattle.report.specs.declared.Progress.{Progress}
 use Rattle.report.specs.declared.Replay.{Replay}
 use Rattle.report.specs.declared.Part.{Part}
 use Rattle.report.specs.Replays.{partOf, entryText, leftAfter}
-
--- a text as long as the buffer takes the place of all of it
-pub fills : (out text : List ℕ) → length text ≡ length out → placed out 0 text ≡ text
-fills out text same =
-    front-placed out text (omega arith) ∙ (ap (λ (rest : List ℕ). text ++ rest) (drop-of-length-le out {i = length text} (omega arith)) ∙ append-nil text)
 
 -- ---- a part
 

@@ -5,6 +5,8 @@ use files::line_fits;
 use files::pair_at;
 use files::put_entry_line;
 use files::put_header;
+use image::four;
+use image::sixteen;
 use kinds::number_of;
 use output::put;
 use session::Called;
@@ -12,6 +14,7 @@ use session::Session;
 use session::Written;
 use session::arrive;
 use session::end;
+use session::refused_setup;
 use session::setup;
 ghost use mathlib.Core.Path.{_≡_};
 ghost use Prim.Native.Nat.{_≤_};
@@ -141,11 +144,12 @@ fn part_of(written: usize, before: Replay, after: Replay) -> Part
     }
 }
 
-// The record before any setup: the one that a setup with undefined flags leaves.
+// The record before any setup: the one that a refused setup leaves.
 fn no_session() -> Session
     ensures { λ r. ⌜ r ≡ deadSession ⌝ }
 {
-    setup([0u8; 16], [0u8; 4], 255).session
+    let p = refused_setup();
+    p.session
 }
 
 fn no_replay() -> Replay
@@ -267,24 +271,6 @@ fn set_up(body: &[u8]) -> Ran
         written: none,
         session,
     }
-}
-
-fn sixteen(octets: &[u8]) -> [u8; 16]
-    requires { ⌜ length (now octets) ≡ 16 ⌝ }
-    ensures { λ r. ⌜ r ≡ now (octets .entry) ⌝ }
-{
-    let mut out = [0u8; 16];
-    put(&mut out, 0, octets);
-    out
-}
-
-fn four(octets: &[u8]) -> [u8; 4]
-    requires { ⌜ length (now octets) ≡ 4 ⌝ }
-    ensures { λ r. ⌜ r ≡ now (octets .entry) ⌝ }
-{
-    let mut out = [0u8; 4];
-    put(&mut out, 0, octets);
-    out
 }
 
 // An entry's line, with STOPPED after an answer other than 0: all of it from the front on, or nothing; the next place.

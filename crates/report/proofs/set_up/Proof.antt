@@ -1,7 +1,9 @@
 -- `report::set_up` meets its contract: sixteen octets, four, and one.
-use mathlib.Core.Path.{sym}
+use mathlib.Core.Path.{sym, _∙_}
 use native.Mathlib.Omega.{arith}
+use lib.ListN.{take, drop, length-drop}
 use lib.Seq.{length-take-le}
+use Rattle.image.proofs.Reading.{filled}
 use Rattle.report.proofs.Runs.{setup-ran}
 use borrow.Author.Needs.{needs}
 use Rattle.report.proofs.set_up.Statement.{statement}
@@ -11,7 +13,7 @@ slice-aggregate-sixteen : tie.Need-slice-aggregate-sixteen
 slice-aggregate-sixteen c = sym (length-take-le 16 (c .before .before .args .body .now) (omega arith))
 
 sixteen-requires : tie.Need-sixteen-requires
-sixteen-requires c κs = length-take-le 16 (c .before .before .args .body .now) (omega arith)
+sixteen-requires c κs = search needs
 
 sub-four : tie.Need-sub-four
 sub-four c = search needs
@@ -37,7 +39,10 @@ number-of-requires c κs = search needs
 returns : tie.Need-returns
 returns c =
     let a = c .before .before .before .before .before .before .before .before .before .args in
-    setup-ran (a .body .now) (c .before .before .before .before .before .before .sixteen .ensures) (c .before .before .before .before .four .ensures) (c .before .before .setup .ensures) (c .number-of .ensures)
+    let b = a .body .now in
+    let front = length-take-le 16 b (omega arith) in
+    let middle = length-take-le 4 (drop 16 b) (omega (arith, length-drop 16 b)) in
+    setup-ran b (c .before .before .before .before .before .before .sixteen .ensures ∙ filled 16 (take 16 b) front) (c .before .before .before .before .four .ensures ∙ filled 4 (take 4 (drop 16 b)) middle) (c .before .before .setup .ensures) (c .number-of .ensures)
 
 pub set-up-spec : {M : Type 1} → statement M
 set-up-spec =
