@@ -99,7 +99,7 @@ fresh-client : (client mapped : List ℕ) (flags : ℕ) → freshSession client 
 unfolding freshSession
 fresh-client client mapped flags = refl
 
-good-flags : (client mapped : List ℕ) (flags : ℕ) → prepared client mapped flags .answer ≡ Answer.Done → BadFlags flags → ⊥
+pub good-flags : (client mapped : List ℕ) (flags : ℕ) → prepared client mapped flags .answer ≡ Answer.Done → BadFlags flags → ⊥
 unfolding answerNumber
 good-flags client mapped flags e b = omega (arith, five client mapped flags .1 b, ap answerNumber e)
 

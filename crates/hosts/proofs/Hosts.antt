@@ -1,0 +1,168 @@
+-- Demand 3 for a host in C: its calls are calls of the session on the record that its memory holds.
+use mathlib.Core.Path.{_≡_, refl, ap, sym, _∙_}
+use mathlib.Core.List.{List, [], _∷_}
+use Prim.Native.Nat.{ℕ, zero, suc}
+use lib.ListN.{length}
+use Rattle.rules.specs.Answers.{answerNumber}
+use Rattle.rules.specs.Setup.{Setup}
+use Rattle.rules.specs.Demand3.{Call, arrival, ending, Return, Made, Calls, none, next, itemsOf, historyOf, goneToServer, goneToClient, Demand3}
+use Rattle.rules.specs.declared.Answer.{Answer}
+use Rattle.session.specs.declared.Session.{Session}
+use Rattle.session.specs.declared.Prepared.{Prepared}
+use Rattle.session.specs.Calls.{Outcome, prepared, freshSession}
+use Rattle.answers.specs.Table.{Call as TableCall, Result, arrival as arrivalResult, ending as endingResult}
+use Rattle.answers.proofs.Table.{setup-zero}
+use Rattle.history.specs.Gateway.{Fresh as SessionFresh, Promise as SessionPromise, outcomeOf, gateway}
+use Rattle.history.proofs.Demand3.{demand3}
+use Rattle.image.specs.Image.{sessionOf}
+use Rattle.relay.specs.Host.{preparedFrom, arrivedAt, endedAt, serverAfter, clientAfter}
+use Rattle.relay.specs.Carried.{Holds}
+use Rattle.relay.proofs.Calls.{from-slices, room}
+use Rattle.relay.proofs.Carrying.{good-flags, begun, carried}
+use Rattle.hosts.specs.Memory.{Fresh, outcomeAt, Promise, host}
+
+-- ---- an answer by its number
+
+answerOf : ℕ → Answer
+answerOf zero = Answer.Done
+answerOf (suc zero) = Answer.QueueFull
+answerOf (suc (suc zero)) = Answer.NoRoom
+answerOf (suc (suc (suc zero))) = Answer.UnknownDirection
+answerOf (suc (suc (suc (suc zero)))) = Answer.BadRecord
+answerOf (suc (suc (suc (suc (suc zero))))) = Answer.BadSetup
+answerOf (suc (suc (suc (suc (suc (suc n)))))) = Answer.DirectionEnded
+
+answer-of : (a : Answer) → answerOf (answerNumber a) ≡ a
+unfolding answerNumber answerOf
+answer-of Answer.Done = refl
+answer-of Answer.QueueFull = refl
+answer-of Answer.NoRoom = refl
+answer-of Answer.UnknownDirection = refl
+answer-of Answer.BadRecord = refl
+answer-of Answer.BadSetup = refl
+answer-of Answer.DirectionEnded = refl
+
+same-answer : (a b : Answer) → answerNumber a ≡ answerNumber b → a ≡ b
+same-answer a b e = sym (answer-of a) ∙ (ap answerOf e ∙ answer-of b)
+
+-- ---- one call
+
+-- the call as the table of answers has it
+tableCall : Session → Call → TableCall
+tableCall s (arrival d octets out back) = record { session = s; direction = d; serverRoom = length out; clientRoom = length back }
+tableCall s (ending d out back) = record { session = s; direction = d; serverRoom = length out; clientRoom = length back }
+
+table-session : (s : Session) (c : Call) → tableCall s c .session ≡ s
+unfolding tableCall
+table-session s (arrival d octets out back) = refl
+table-session s (ending d out back) = refl
+
+result : (s : Session) (c : Call) → Result (tableCall s c) (outcomeOf s c)
+unfolding tableCall outcomeOf
+result s (arrival d octets out back) = arrivalResult octets
+result s (ending d out back) = endingResult
+
+outcome-at : (image : List ℕ) (c : Call) → outcomeAt image c ≡ outcomeOf (sessionOf image) c
+unfolding outcomeAt arrivedAt endedAt outcomeOf
+outcome-at image (arrival d octets out back) = refl
+outcome-at image (ending d out back) = refl
+
+-- what the host was told, with the session's record in place of the memory
+abbrev told : Return (List ℕ) → Session → Return Session
+told t s =
+    record {
+      answer = t .answer;
+      taken = t .taken;
+      toServer = t .toServer;
+      toClient = t .toClient;
+      session = s;
+      serverBuffer = t .serverBuffer;
+      clientBuffer = t .clientBuffer;
+    }
+
+module _ (image : List ℕ) (s : Session) (h : Holds image s) (c : Call) (t : Return (List ℕ)) (p : Promise image c t) where
+  here : outcomeAt image c ≡ outcomeOf s c
+  here = outcome-at image c ∙ ap (λ (r : Session). outcomeOf r c) (h .read)
+
+  promised : SessionPromise s c (told t (outcomeOf s c .called .session))
+  unfolding serverAfter clientAfter
+  promised =
+      record {
+        answer = same-answer _ _ (p .number) ∙ ap (λ (o : Outcome). o .called .answer) here;
+        taken = p .taken ∙ ap (λ (o : Outcome). o .called .taken) here;
+        toServer = p .toServer ∙ ap (λ (o : Outcome). o .called .written .server) here;
+        toClient = p .toClient ∙ ap (λ (o : Outcome). o .called .written .client) here;
+        session = refl;
+        serverBuffer = p .serverBuffer ∙ rw (p .toServer, here);
+        clientBuffer = p .clientBuffer ∙ rw (p .toClient, here);
+      }
+
+  holds-then : Holds (t .session) (outcomeOf s c .called .session)
+  holds-then =
+      let held = carried image (tableCall s c) (outcomeOf s c) (rw (table-session s c) h) (result s c) in
+      rw (p .memory, here) held
+
+-- ---- lists of calls
+
+items : (c : Call) (t : Return (List ℕ)) (s : Session) → itemsOf gateway c (told t s) ≡ itemsOf host c t
+items (arrival d octets out back) t s = refl
+items (ending d out back) t s = refl
+
+-- calls of the session that do what a host's calls did
+record Run (s : Session) (l : List (Made host)) (z : List ℕ) : Type 0 where
+  made : List (Made gateway)
+  last : Session
+  calls : Calls gateway s made last
+  holds : Holds z last
+  history : historyOf gateway made ≡ historyOf host l
+  toServer : goneToServer gateway made ≡ goneToServer host l
+  toClient : goneToClient gateway made ≡ goneToClient host l
+
+run : {image z : List ℕ} {l : List (Made host)} (s : Session) → Holds image s → Calls host image l z → Run s l z
+run s h none = record { made = []; last = s; calls = none; holds = h; history = refl; toServer = refl; toClient = refl }
+run {image} {z} s h (next {c = c} {t = t} {l = l} p rest) =
+    let then = outcomeOf s c .called .session in
+    let r = run then (holds-then image s h c t p) rest in
+    record {
+      made = (c, told t then) ∷ r .made;
+      last = r .last;
+      calls = next (promised image s h c t p) (r .calls);
+      holds = r .holds;
+      history = rw (items c t then, r .history);
+      toServer = rw (r .toServer);
+      toClient = rw (r .toClient);
+    }
+
+-- ---- demand 3
+
+module _ (su : Setup) (image : List ℕ) (f : Fresh su image) where
+  done : preparedFrom (su .client) (su .mapped) (su .flags) .answer ≡ Answer.Done
+  done = same-answer _ _ (room (f .memory) (preparedFrom (su .client) (su .mapped) (su .flags)) (f .room) refl ∙ f .number)
+
+  made-fresh : prepared (su .client) (su .mapped) (su .flags) ≡ record { answer = Answer.Done; session = freshSession (su .client) (su .mapped) (su .flags) }
+  made-fresh =
+      let slices = from-slices (su .client) (su .mapped) (su .flags) (f .client) (f .mapped) in
+      setup-zero (su .client) (su .mapped) (su .flags) (good-flags (su .client) (su .mapped) (su .flags) (rw slices at done))
+
+  session-fresh : SessionFresh su (freshSession (su .client) (su .mapped) (su .flags))
+  session-fresh =
+      record {
+        answer = ap (λ (p : Prepared). p .answer) made-fresh;
+        session = sym (ap (λ (p : Prepared). p .session) made-fresh);
+      }
+
+  first-held : Holds image (freshSession (su .client) (su .mapped) (su .flags))
+  first-held =
+      rw (f .put) (begun (f .memory) (su .client) (su .mapped) (su .flags) (f .room) (f .client) (f .mapped) (f .octets) done)
+
+-- what the functions that C calls have sent is the reading of the setup and the history
+pub host-demand3 : Demand3 host
+host-demand3 su image z l fresh calls =
+    let r = run (freshSession (su .client) (su .mapped) (su .flags)) (first-held su image fresh) calls in
+    let k = demand3 su _ (r .last) (r .made) (session-fresh su image fresh) (r .calls) in
+    record {
+      toServer = sym (r .toServer) ∙ (k .toServer ∙ rw (r .history));
+      toClient = sym (r .toClient) ∙ (k .toClient ∙ rw (r .history));
+      clientOffset = rw (r .holds .read) (k .clientOffset ∙ rw (r .toServer, r .history));
+      serverOffset = rw (r .holds .read) (k .serverOffset ∙ rw (r .toClient, r .history));
+    }

@@ -1,0 +1,2 @@
+-- Demand 3 for a host in C.
+pub mod Hosts

@@ -1,0 +1,52 @@
+-- A host in C as a gateway of demand 3: its memory is the record, and the functions of the crate relay are the calls.
+use mathlib.Core.Path.{_≡_}
+use mathlib.Core.Bool.{true}
+use mathlib.Core.List.{List}
+use Prim.Native.Nat.{ℕ, _≤_}
+use lib.Dec.{leb}
+use lib.ListN.{length}
+use Rattle.rules.specs.Octets.{every}
+use Rattle.rules.specs.Answers.{Side, answerNumber}
+use Rattle.rules.specs.Setup.{Setup}
+use Rattle.rules.specs.Demand3.{Call, arrival, ending, Return, Gateway, lentServer, lentClient}
+use Rattle.rules.specs.declared.Answer.{Answer}
+use Rattle.output.specs.Buffer.{placed}
+use Rattle.session.specs.Calls.{Outcome, offset as sessionOffset}
+use Rattle.history.specs.Gateway.{numberOf, offsetNumber}
+use Rattle.image.specs.Image.{imageSize, imageOf, sessionOf}
+use Rattle.relay.specs.Host.{preparedFrom, setupNumber, arrivedAt, endedAt, imageAfter, serverAfter, clientAfter}
+
+-- "the record of a setup that answered 0": what `fashlemor_setup` left in memory that had room for a record
+pub record Fresh (su : Setup) (image : List ℕ) : Type 0 where
+  pub memory : List ℕ
+  pub room : imageSize ≤ length memory
+  pub client : length (su .client) ≡ 16
+  pub mapped : length (su .mapped) ≡ 4
+  pub octets : every (λ n. leb n 255) (su .mapped) ≡ true
+  pub number : setupNumber memory (preparedFrom (su .client) (su .mapped) (su .flags)) ≡ answerNumber Answer.Done
+  pub put : image ≡ placed memory 0 (imageOf (preparedFrom (su .client) (su .mapped) (su .flags) .session))
+
+-- what `fashlemor_arrive` and `fashlemor_end` do
+unfoldable pub outcomeAt : List ℕ → Call → Outcome
+outcomeAt image (arrival d octets s c) = arrivedAt image d octets s c
+outcomeAt image (ending d s c) = endedAt image d s c
+
+-- what they promise: the number, the three counts, the memory, and the two buffers
+pub record Promise (image : List ℕ) (c : Call) (t : Return (List ℕ)) : Type 0 where
+  pub number : answerNumber (t .answer) ≡ answerNumber (outcomeAt image c .called .answer)
+  pub taken : t .taken ≡ outcomeAt image c .called .taken
+  pub toServer : t .toServer ≡ outcomeAt image c .called .written .server
+  pub toClient : t .toClient ≡ outcomeAt image c .called .written .client
+  pub memory : t .session ≡ imageAfter image (outcomeAt image c .called)
+  pub serverBuffer : t .serverBuffer ≡ serverAfter (outcomeAt image c) (lentServer c)
+  pub clientBuffer : t .clientBuffer ≡ clientAfter (outcomeAt image c) (lentClient c)
+
+-- and the offset that `fashlemor_offset` sets
+abbrev pub host : Gateway
+host =
+    record {
+      Session = List ℕ;
+      Fresh = Fresh;
+      Promise = Promise;
+      offset = λ image side. offsetNumber (sessionOffset (sessionOf image) (numberOf side));
+    }
