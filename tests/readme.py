@@ -18,13 +18,13 @@ def steps(text):
     """Each command of the text with the output that is shown below it."""
     for block in re.findall(r"^```console\n(.*?)^```$", text, re.M | re.S):
         for step in re.split(r"^\$ ", block, flags=re.M)[1:]:
-            command, _, shown = re.sub(r"\\\n\s*", "", step).partition("\n")
-            yield command, shown
+            command = re.match(r"(?:[^\n]*\\\n)*[^\n]*", step).group()
+            yield re.sub(r"\\\n\s*", "", command), step[len(command) + 1 :]
 
 
 def unmarked(text):
-    """Code blocks that are no console block, and so would not be run."""
-    return [mark for mark in re.findall(r"^```(\w*)\n.*?^```$", text, re.M | re.S) if mark not in ("console", "text", "c", "rust")]
+    """Marks of code blocks that are neither run nor known to be no commands."""
+    return set(re.findall(r"^ *```(.*)", text, re.M)) - {"", "console", "text", "c", "rust"}
 
 
 def holds(command, shown):
@@ -37,9 +37,8 @@ def holds(command, shown):
 
 def main():
     text = README.read_text()
-    wrong = unmarked(text)
-    if wrong:
-        sys.exit(f"README.md: a code block marked {wrong[0] or 'with nothing'}")
+    if unmarked(text) or text.count("\n```\n") != len(re.findall(r"^```\w+$", text, re.M)):
+        sys.exit(f"README.md: a code block with no mark, or one of {unmarked(text)}")
     listed = [step for step in steps(text) if step[0] not in LEFT_OUT]
     results = [holds(*step) for step in listed]
     if len(results) < FEWEST:
