@@ -5,6 +5,7 @@
 - The first cell of each row of docs/TRACE.md is words of document 01 (`..` stands for words left out; a cell in brackets is ours), and
   together the rows cover the sections traced.
 - Every definition of the crates that a reader has to believe stands in docs/TRACE.md.
+- The wrong programs that docs/PROMISES.md names are there, and each public function has at least two of its name.
 """
 import pathlib
 import re
@@ -13,9 +14,10 @@ import sys
 ROOT = pathlib.Path(__file__).resolve().parent.parent
 SCOPE = ROOT / "docs" / "01-scope.md"
 TRACE = ROOT / "docs" / "TRACE.md"
+PROMISES = ROOT / "docs" / "PROMISES.md"
 DOCUMENTS = [ROOT / "README.md", *sorted((ROOT / "docs").glob("*.md"))]
 TRACED = ["The session", "Lines", "Client lines", "Server lines", "Demand 3 written out", "Session files"]
-BELIEVED = ["rules", "output", "kinds", "gives", "effects", "session", "files", "report", "image", "relay"]
+BELIEVED = ["rules", "output", "kinds", "gives", "effects", "session", "files", "report", "image", "relay", "hosts"]
 # pages that only private functions cite
 PRIVATE = {"Core", "Refused"}
 # how many words of document 01 may stand between two pieces that are traced
@@ -84,6 +86,31 @@ def untraced(title):
             yield f"docs/TRACE.md: no row for document 01, {title}: {' '.join(words[:14])}"
 
 
+def public_functions(crate):
+    source = ROOT / "crates" / crate / "src" / "lib.rt"
+    return re.findall(r"^pub (?:extern \"C\" )?fn (?:fashlemor_)?(\w+)", source.read_text(), re.M) if source.exists() else []
+
+
+def edits(crate):
+    return [path.stem for path in ROOT.glob(f"crates/{crate}/must-fail/*.edit")]
+
+
+def missing_edits():
+    """Edits that a row of docs/PROMISES.md names and that are not there, and public functions with fewer than two."""
+    for row in re.findall(r"^\|.*\|([^|]*)\|$", PROMISES.read_text(), re.M):
+        crate = ""
+        for word, name in re.findall(r"(\w+)? ?`([a-z0-9_]+)`", row):
+            crate = word or crate
+            if crate and name not in edits(crate):
+                yield f"docs/PROMISES.md: {crate} has no edit {name}"
+    for crate in (path.name for path in sorted((ROOT / "crates").iterdir())):
+        functions = public_functions(crate)
+        owners = [max((f for f in functions if edit.startswith(f + "_")), key=len, default=None) for edit in edits(crate)]
+        for name in functions:
+            if owners.count(name) < 2:
+                yield f"crates/{crate}: {name} has {owners.count(name)} edits of its name"
+
+
 def faults():
     known = modules()
     for document in DOCUMENTS:
@@ -103,6 +130,7 @@ def faults():
                 yield f"{where}: {crate}::{name} is no public function"
     for title in TRACED:
         yield from untraced(title)
+    yield from missing_edits()
     traced = TRACE.read_text()
     for module, name in definitions():
         if f"`{module}.{name}`" not in traced:
