@@ -1,11 +1,11 @@
 /* The FTP control channel gateway (RFC 6384) for a host in C: target/staticlib/librelay.a, made by `rt staticlib relay`.
  *
  * Every slice is a pointer and a length. Pointers are not null (a length may be 0), lie in memory that the host owns for the time of the call, and slices
- * of one call do not overlap. Nothing else is asked: any octets and any lengths are answered.
+ * of one call do not overlap; counts and offset are aligned as their types ask. Nothing else is asked: any octets and any lengths are answered.
  *
  * The record is an image in the host's memory, FASHLEMOR_RECORD octets with no pointer in it. It may be copied, kept and moved between calls, and needs no
  * alignment. docs/RECORD.md has its layout. Octets behind the first FASHLEMOR_RECORD are neither read nor written. A record that is shorter, or whose
- * octets are no record (all zero, for example), is refused with 4. */
+ * octets are no record (all zero, for example), is refused with 4 by an arrival and an end of a direction that there is. */
 #ifndef FASHLEMOR_H
 #define FASHLEMOR_H
 
@@ -79,7 +79,8 @@ uint8_t fashlemor_end(uint8_t *record, size_t record_length,
                       size_t *counts, size_t counts_length);
 
 /* Sets offset[0], if there is one, to the octets written for a direction minus those taken from it, modulo 2^32. Answers 0, or 3 and sets nothing.
- * Octets that are no record have the offset 0. */
+ * The offset is that of the record's counters, also where an arrival would be refused with 4; fewer octets than a record, or a mark with no value of its
+ * field (docs/RECORD.md), have the offset 0. */
 uint8_t fashlemor_offset(const uint8_t *record, size_t record_length,
                          uint8_t direction,
                          uint32_t *offset, size_t offset_length);

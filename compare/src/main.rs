@@ -1,6 +1,7 @@
 //! Compares the proved gateway with the independent one: call by call through the static library,
 //! report by report through the program `replay`. A difference is shown with its seed and on the
-//! smallest session that still has it, as a text that `./session-file` reads.
+//! smallest session that still has it, as a text that `./session-file` reads where one can say it.
+//! Forged records, which the independent one can't have, are held to the rule of number 4 alone.
 
 #![forbid(unsafe_code)]
 
