@@ -300,8 +300,10 @@ module _ (s : Session) (rs rc : ℕ) where
 
   pub ends : (d : ℕ) (b : Bool) → numberOf (endOutcome s (sideOf d) (atEnd (sideOf d)) b) ≡ 0 → Ends (endCall d) (endOutcome s (sideOf d) (atEnd (sideOf d)) b)
   unfolding endOutcome outcome refused answerNumber endStep sessionAfter
-  ends zero true e = record { passed = refl; nothing = refl; taken = refl; owed = refl; kinds = refl; over = refl }
-  ends (suc d) true e = record { passed = refl; nothing = refl; taken = refl; owed = refl; kinds = refl; over = refl }
+  ends zero true e =
+      record { passed = refl; nothing = refl; taken = refl; owed = refl; kinds = refl; over = refl; writtenServer = refl; writtenClient = refl; session = refl }
+  ends (suc d) true e =
+      record { passed = refl; nothing = refl; taken = refl; owed = refl; kinds = refl; over = refl; writtenServer = refl; writtenClient = refl; session = refl }
   ends d false e = absurd (omega arith)
 
   pub end-untouched : (d : Side) (b : Bool) → numberOf (endOutcome s d (atEnd d) b) ≡ 2 → Untouched s (endOutcome s d (atEnd d) b)

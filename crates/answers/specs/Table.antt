@@ -13,7 +13,7 @@ use Rattle.effects.specs.declared.Direction.{Direction}
 use Rattle.session.specs.declared.Fixed.{Fixed}
 use Rattle.session.specs.declared.Session.{Session}
 use Rattle.session.specs.Steps.{State, Step, octetStep}
-use Rattle.session.specs.Calls.{directionOf, stateOf, fixedOf, sessionAfter, Outcome, arrived, ended}
+use Rattle.session.specs.Calls.{directionOf, stateOf, fixedOf, sessionAfter, Outcome, arrived, ended, endStep}
 
 -- ---- calls
 
@@ -179,6 +179,9 @@ pub record Ends (c : Call) (o : Outcome) : Type 0 where
   pub owed : o .called .session .control .owed ≡ c .session .control .owed
   pub kinds : o .called .session .kinds ≡ c .session .kinds
   pub over : HasEnded (o .called .session) (c .direction)
+  pub writtenServer : o .called .written .server ≡ length (o .toServer)
+  pub writtenClient : o .called .written .client ≡ length (o .toClient)
+  pub session : o .called .session ≡ sessionAfter (c .session) (sideOf (c .direction)) 0 (length (o .toServer)) (length (o .toClient)) (endStep (sideOf (c .direction)) (stateOf (c .session)) .state)
 
 -- ---- setup
 
