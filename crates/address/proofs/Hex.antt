@@ -89,16 +89,8 @@ more-digits v r n h k = rw (add-one, pow-suc) (omega arith)
 pub few-digits : (v n : ℕ) → v < 16 ^ n → n ≤ 4 → v < 65536
 few-digits v n h k = let m : 16 ^ n ≤ 65536 = pow-le-pow-right (omega arith) k in omega arith
 
--- a test of every octet, and the value of hex digits, at an index
+-- the value of hex digits at an index
 module _ (s : List ℕ) (i : ℕ) (h : i < length s) where
-  pub every-yes : (p : ℕ → Bool) → p (getD s i 0) ≡ true → every p (drop i s) ≡ every p (drop (i + 1) s)
-  unfolding every
-  every-yes p e = rw (add-one, drop-cons s i 0 h, e)
-
-  pub every-not : (p : ℕ → Bool) → p (getD s i 0) ≡ false → every p (drop i s) ≡ false
-  unfolding every
-  every-not p e = rw (drop-cons s i 0 h, e)
-
   pub hexFrom-at : (v : ℕ) → hexFrom v (drop i s) ≡ hexFrom (v * 16 + hexDigitValue (getD s i 0)) (drop (i + 1) s)
   unfolding hexFrom
   hexFrom-at v = rw (add-one, drop-cons s i 0 h)

@@ -1,14 +1,13 @@
 -- The ports that a client line and a 227 line are read with are at most 65,535.
-use mathlib.Core.Path.{_≡_}
-use mathlib.Core.Bool.{Bool, true, _&&_}
+use mathlib.Core.Path.{_≡_, refl}
+use mathlib.Core.Bool.{Bool, true}
 use mathlib.Core.List.{List, [], _∷_, _++_}
 use mathlib.Core.Option.{Option, none, some, Option·map}
 use Prim.Native.Nat.{ℕ, zero, suc, _+_, _*_, _≤_}
 use native.Mathlib.Omega.{arith}
-use lib.Dec.{leb}
-use lib.ListN.{length, getD, drop}
-use borrow.Author.Tests.{le-leb, leb-true}
-use Rattle.rules.specs.Octets.{within, every, digit, value, number, front, after, parts}
+use lib.ListN.{getD, drop}
+use borrow.Author.Tests.{le-leb}
+use Rattle.rules.specs.Octets.{every, digit, number, front, after, parts}
 use Rattle.rules.specs.Address.{both, octetNumber}
 use Rattle.rules.specs.Commands.{
   epsvArgument,
@@ -33,9 +32,9 @@ use Rattle.rules.specs.declared.EprtArgument.{EprtArgument}
 use Rattle.rules.specs.declared.AlgsArgument.{AlgsArgument}
 use Rattle.rules.specs.declared.Command.{Command}
 use Rattle.rules.specs.declared.PassiveReply.{PassiveReply}
-use Rattle.octets.proofs.Ranges.{and-both}
 use Rattle.octets.proofs.Runs.{every-append}
-use Rattle.octets.proofs.Choices.{either, by-test}
+use Rattle.octets.proofs.Choices.{either}
+use Rattle.address.proofs.Numbers.{number-le}
 use Rattle.answers.proofs.Lengths.{isOctet, octet-at}
 
 -- ---- numbers
@@ -46,14 +45,11 @@ data Most (n : ℕ) : Option ℕ → Type 0 where
   most : (v : ℕ) → v ≤ n → Most n (some v)
 
 number-most : (digits lo hi : ℕ) (xs : List ℕ) → Most hi (number digits lo hi xs)
-unfolding number
-number-most digits lo hi xs =
-    let size : Bool = within 1 digits (length xs) in
-    let range : Bool = within lo hi (value xs) in
-    by-test (Most hi) (size && every digit xs && range) (some (value xs)) none
-    (λ e. let inside : range ≡ true = and-both (size && every digit xs) range e .1 in
-    most (value xs) (leb-true (value xs) hi (and-both (leb lo (value xs)) (leb (value xs) hi) inside .1)))
-    (λ e. nothing)
+number-most digits lo hi xs = as-read (number digits lo hi xs) refl
+  where
+    as-read : (o : Option ℕ) → number digits lo hi xs ≡ o → Most hi o
+    as-read none e = nothing
+    as-read (some v) e = most v (number-le digits lo hi xs v e)
 
 -- ---- a client line
 

@@ -98,3 +98,17 @@ front-at p s b e q = let k : e - b ≡ run p (drop b s) = omega arith in rw k
 pub after-at : (p : ℕ → Bool) (s : List ℕ) (b e : ℕ) → e ≡ b + run p (drop b s) → after p (drop b s) ≡ drop e s
 unfolding after
 after-at p s b e q = rw (drop-drop, q)
+
+-- from i on: the next one passes, so the rest decides; it does not; or none is left
+module _ (p : ℕ → Bool) (s : List ℕ) (i : ℕ) where
+  pub every-yes : i < length s → p (getD s i 0) ≡ true → every p (drop i s) ≡ every p (drop (i + 1) s)
+  unfolding every
+  every-yes h e = rw (add-one, drop-cons s i 0 h, e)
+
+  pub every-not : i < length s → p (getD s i 0) ≡ false → every p (drop i s) ≡ false
+  unfolding every
+  every-not h e = rw (drop-cons s i 0 h, e)
+
+  pub every-end : length s ≤ i → every p (drop i s) ≡ true
+  unfolding every
+  every-end h = rw (drop-of-length-le s h)

@@ -10,7 +10,8 @@ use Rattle.rules.specs.Octets.{every}
 use Rattle.rules.specs.Address.{hexDigit, hexFrom}
 use Rattle.octets.proofs.Ranges.{is-within}
 use Rattle.address.proofs.Tests.{within-not}
-use Rattle.address.proofs.Hex.{digit-yes, digit-not, more-digits, few-digits, every-yes, every-not, hexFrom-at, group-size, group-octets, group-read}
+use Rattle.octets.proofs.Runs.{every-yes, every-not}
+use Rattle.address.proofs.Hex.{digit-yes, digit-not, more-digits, few-digits, hexFrom-at, group-size, group-octets, group-read}
 use Rattle.address.proofs.hex_group.Statement.{statement}
 use Rattle.address.proofs.hex_group.Tie as tie
 
@@ -41,7 +42,7 @@ returns-3 c =
     let l = c .before .before .before .before .loop in
     let s = c .before .before .before .before .before .before .before .before .args .digits .now in
     let bad : hexDigit (getD s (l .i) 0) ≡ false = digit-not _ _ (c .before .hex-value .ensures) (omega arith) in
-    group-octets s (l .inv .2 ∙ every-not s (l .i) (omega arith) hexDigit bad)
+    group-octets s (l .inv .2 ∙ every-not hexDigit s (l .i) (omega arith) bad)
 
 mul-value : tie.Need-mul-value Inv-loop μ-loop
 mul-value c = omega (arith, few-digits _ _ (c .before .before .before .before .loop .inv .1) (omega arith))
@@ -66,7 +67,7 @@ loop-again c =
     let in-s : l .i < length s = omega arith in (
       omega arith,
       more-digits _ _ _ (l .inv .1) (omega arith),
-      l .inv .2 ∙ every-yes s (l .i) in-s hexDigit (good .0),
+      l .inv .2 ∙ every-yes hexDigit s (l .i) in-s (good .0),
       l .inv .3 ∙ hexFrom-at s (l .i) in-s (l .value) ∙ rw (good .1),
     )
 
