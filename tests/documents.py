@@ -17,9 +17,9 @@ TRACE = ROOT / "docs" / "TRACE.md"
 PROMISES = ROOT / "docs" / "PROMISES.md"
 DOCUMENTS = [ROOT / "README.md", *sorted((ROOT / "docs").glob("*.md"))]
 TRACED = ["The session", "Lines", "Client lines", "Server lines", "Demand 3 written out", "Session files"]
-BELIEVED = ["rules", "output", "kinds", "gives", "effects", "session", "files", "report", "image", "relay", "hosts"]
+BELIEVED = ["rules", "output", "kinds", "gives", "effects", "records", "steps", "session", "files", "fields", "report", "image", "relay", "hosts"]
 # pages that only private functions cite
-PRIVATE = {"Core", "Refused"}
+PRIVATE = {"Core"}
 # how many words of document 01 may stand between two pieces that are traced
 GAP = 4
 

@@ -56,40 +56,14 @@ use Rattle.effects.specs.Effects.{
 }
 use Rattle.octets.proofs.Choices.{either, by-test}
 use Rattle.queue.proofs.Answers.{length-queue}
-use Rattle.session.specs.declared.Fixed.{Fixed}
-use Rattle.session.specs.declared.Session.{Session}
-use Rattle.session.specs.Steps.{
-  State,
-  Step,
-  owedThen,
-  owedFrom,
-  blocked,
-  answersText,
-  isAuthNext,
-  settledText,
-  clientState,
-  clientEffectIn,
-  clientStep,
-  serverState,
-  serverEffectIn,
-  serverStep,
-  octetStep,
-}
-use Rattle.session.specs.Calls.{
-  isPassing,
-  sound,
-  refusalOf,
-  stateOf,
-  fixedOf,
-  unlessStopped,
-  stopOf,
-  takes,
-  unlessRefused,
-  outcome,
-  arrived,
-}
+use Rattle.steps.specs.declared.Fixed.{Fixed}
+use Rattle.records.specs.declared.Session.{Session}
+use Rattle.steps.specs.Steps.{State, Step, owedThen, owedFrom, blocked, answersText, isAuthNext, settledText, clientState, clientEffectIn, clientStep, serverState, serverEffectIn, serverStep, octetStep}
+use Rattle.records.specs.Sound.{isPassing, sound, refusalOf}
+use Rattle.session.specs.Calls.{stateOf, fixedOf, unlessRefused, outcome, arrived}
+use Rattle.steps.specs.Takes.{unlessStopped, stopOf, takes}
 use Rattle.session.specs.Bounds.{WritesAtMost, OctetBound, Progress}
-use Rattle.session.proofs.Turns.{place-owed}
+use Rattle.steps.proofs.Turns.{place-owed}
 use Rattle.answers.proofs.Lengths.{isOctet, judged-most, port-line, pasv-line, passive-line, head-answers}
 use Rattle.answers.specs.Table.{Sound}
 use Rattle.answers.proofs.Refusals.{Refusal, unknown, bad, over, accepted, sound-words, refusal-of}

@@ -33,42 +33,14 @@ use Rattle.effects.specs.Effects.{
 }
 use Rattle.octets.proofs.Choices.{either, by-test}
 use Rattle.queue.proofs.Listed.{Listed, listed-push, listed-leave}
-use Rattle.session.specs.declared.Fixed.{Fixed}
-use Rattle.session.specs.declared.Session.{Session}
-use Rattle.session.specs.Steps.{
-  State,
-  owedThen,
-  leaving,
-  passesFromNow,
-  isAuthNext,
-  settledState,
-  clientState,
-  clientEffectIn,
-  clientStep,
-  serverState,
-  serverEffectIn,
-  serverStep,
-  octetStep,
-}
-use Rattle.session.specs.Calls.{
-  isPassing,
-  refusalOf,
-  stateOf,
-  fixedOf,
-  sessionAfter,
-  Outcome,
-  refused,
-  unlessRefused,
-  outcome,
-  arrived,
-  endStep,
-  endOutcome,
-  ended,
-  freshSession,
-}
+use Rattle.steps.specs.declared.Fixed.{Fixed}
+use Rattle.records.specs.declared.Session.{Session}
+use Rattle.steps.specs.Steps.{State, owedThen, leaving, passesFromNow, isAuthNext, settledState, clientState, clientEffectIn, clientStep, serverState, serverEffectIn, serverStep, octetStep}
+use Rattle.records.specs.Sound.{isPassing, refusalOf}
+use Rattle.session.specs.Calls.{stateOf, fixedOf, sessionAfter, Outcome, refused, unlessRefused, outcome, arrived, endStep, endOutcome, ended, freshSession}
 use Rattle.session.specs.Bounds.{Shaped, WritesAtMost}
-use Rattle.session.proofs.Octets.{length-stored}
-use Rattle.session.proofs.Turns.{place-owed}
+use Rattle.steps.proofs.Octets.{length-stored}
+use Rattle.steps.proofs.Turns.{place-owed}
 use Rattle.answers.specs.Table.{
   Call,
   Result,

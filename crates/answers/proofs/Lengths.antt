@@ -13,7 +13,8 @@ use Rattle.rules.specs.Commands.{portLine, pasvLine}
 use Rattle.rules.specs.Replies.{extendedPassiveLine, headAnswers}
 use Rattle.rules.specs.declared.Kind.{Kind}
 use Rattle.octets.proofs.Ranges.{and-both}
-use Rattle.writers.proofs.Lines.{port-most, extended-passive-most, answer-most}
+use Rattle.own.proofs.Lengths.{answer-most}
+use Rattle.writers.proofs.Lines.{port-most, extended-passive-most}
 
 -- all that is used of the judged length
 pub judged-most : 64 ≤ judged

@@ -17,9 +17,9 @@ use Rattle.effects.specs.declared.Place.{Place}
 use Rattle.effects.specs.declared.Direction.{Direction}
 use Rattle.kinds.specs.Kinds.{isListed}
 use Rattle.octets.proofs.Ranges.{and-both}
-use Rattle.session.specs.declared.Session.{Session}
-use Rattle.session.specs.Calls.{isHolding, isEnded, soundDirection, sound, directionOf, refusalOf}
-use Rattle.session.proofs.Stops.{refusal-cases}
+use Rattle.records.specs.declared.Session.{Session}
+use Rattle.records.specs.Sound.{isHolding, isEnded, soundDirection, sound, directionOf, refusalOf}
+use Rattle.records.proofs.Refusals.{refusal-cases}
 use Rattle.answers.specs.Table.{Unknown, Known, SoundDirection, Sound, HasEnded}
 
 -- ---- number 4 in words

@@ -12,24 +12,11 @@ use borrow.Author.Tests.{leb-true, leb-false}
 use Rattle.rules.specs.Answers.{Side, client, server, sideOf, answerNumber, fits}
 use Rattle.rules.specs.Setup.{eprtOn, eprtSupported, badFlags}
 use Rattle.rules.specs.declared.Answer.{Answer}
-use Rattle.session.specs.declared.Session.{Session}
-use Rattle.session.specs.Steps.{State, Step}
-use Rattle.session.specs.Calls.{
-  refusalOf,
-  stateOf,
-  fixedOf,
-  Took,
-  takes,
-  sessionAfter,
-  Outcome,
-  refused,
-  unlessRefused,
-  outcome,
-  arrived,
-  endStep,
-  endOutcome,
-  ended,
-}
+use Rattle.records.specs.declared.Session.{Session}
+use Rattle.steps.specs.Steps.{State, Step}
+use Rattle.records.specs.Sound.{refusalOf}
+use Rattle.session.specs.Calls.{stateOf, fixedOf, sessionAfter, Outcome, refused, unlessRefused, outcome, arrived, endStep, endOutcome, ended}
+use Rattle.steps.specs.Takes.{Took, takes}
 use Rattle.answers.specs.Table.{
   Call,
   Result,

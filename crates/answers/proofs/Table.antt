@@ -11,18 +11,8 @@ use Rattle.rules.specs.Answers.{sideOf, answerNumber}
 use Rattle.rules.specs.Setup.{badFlags, setupAnswer}
 use Rattle.rules.specs.declared.Answer.{Answer}
 use Rattle.session.specs.declared.Prepared.{Prepared}
-use Rattle.session.specs.Calls.{
-  takes,
-  Outcome,
-  refused,
-  unlessRefused,
-  outcome,
-  arrived,
-  ended,
-  freshSession,
-  deadSession,
-  prepared,
-}
+use Rattle.steps.specs.Takes.{takes}
+use Rattle.session.specs.Calls.{Outcome, refused, unlessRefused, outcome, arrived, ended, freshSession, deadSession, prepared}
 use Rattle.answers.specs.Table.{
   Call,
   arrivedAt,

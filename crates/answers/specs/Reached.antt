@@ -7,7 +7,7 @@ use Rattle.rules.specs.Octets.{oct, lf}
 use Rattle.rules.specs.Answers.{mostOwed}
 use Rattle.rules.specs.Lines.{judged}
 use Rattle.rules.specs.declared.Answer.{Answer}
-use Rattle.session.specs.declared.Session.{Session}
+use Rattle.records.specs.declared.Session.{Session}
 use Rattle.session.specs.declared.Called.{Called}
 use Rattle.session.specs.Calls.{freshSession, arrived}
 

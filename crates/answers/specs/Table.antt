@@ -10,10 +10,11 @@ use Rattle.rules.specs.Lines.{judged}
 use Rattle.rules.specs.Setup.{eprtOn, eprtSupported}
 use Rattle.effects.specs.declared.Place.{Place}
 use Rattle.effects.specs.declared.Direction.{Direction}
-use Rattle.session.specs.declared.Fixed.{Fixed}
-use Rattle.session.specs.declared.Session.{Session}
-use Rattle.session.specs.Steps.{State, Step, octetStep}
-use Rattle.session.specs.Calls.{directionOf, stateOf, fixedOf, sessionAfter, Outcome, arrived, ended, endStep}
+use Rattle.steps.specs.declared.Fixed.{Fixed}
+use Rattle.records.specs.declared.Session.{Session}
+use Rattle.steps.specs.Steps.{State, Step, octetStep}
+use Rattle.records.specs.Sound.{directionOf}
+use Rattle.session.specs.Calls.{stateOf, fixedOf, sessionAfter, Outcome, arrived, ended, endStep}
 
 -- ---- calls
 

@@ -7,9 +7,9 @@ ghost use lib.ListN.{length};
 use kinds::number_of;
 use libc::STDIN_FILENO;
 use libc::STDOUT_FILENO;
+use records::Session;
 use session::Called;
 use session::DirectionOffset;
-use session::Session;
 
 fn main() {
     let mut buffer = io::large_buffer();

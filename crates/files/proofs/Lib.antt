@@ -1,4 +1,2 @@
-pub mod Printed
 pub mod Tables
-pub mod Fields
 pub mod Accepted

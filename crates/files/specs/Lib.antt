@@ -1,5 +1,2 @@
--- "Session files": which files are refused, and the report of the others.
+-- "Session files": which files are refused.
 pub mod Contents
-pub mod Report
-pub mod Printed
-pub mod Parts

@@ -7,9 +7,9 @@ use effects::Direction;
 use effects::Place;
 use kinds::number_of;
 use libc::STDOUT_FILENO;
+use records::Control;
+use records::Session;
 use session::Called;
-use session::Control;
-use session::Session;
 
 const SIZE: usize = 600;
 

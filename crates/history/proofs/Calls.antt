@@ -12,31 +12,14 @@ use Rattle.rules.specs.ToClient.{Place as Reading, ClientState, ServerState}
 use Rattle.rules.specs.Demand3.{Call, arrival, ending, endIfDone, isRefusal}
 use Rattle.rules.specs.declared.Answer.{Answer}
 use Rattle.effects.specs.declared.Place.{Place}
-use Rattle.session.specs.declared.Session.{Session}
-use Rattle.session.specs.declared.Fixed.{Fixed}
-use Rattle.session.specs.Steps.{State, Step, octetStep}
-use Rattle.session.specs.Calls.{
-  isEnded,
-  directionOf,
-  sound,
-  refusalOf,
-  stateOf,
-  fixedOf,
-  Took,
-  stopOf,
-  takes,
-  takenFor,
-  sessionAfter,
-  Outcome,
-  refused,
-  unlessRefused,
-  outcome,
-  arrived,
-  endStep,
-  endOutcome,
-  ended as sessionEnded,
-}
-use Rattle.session.proofs.Stops.{refusal-cases, unless-stopped}
+use Rattle.records.specs.declared.Session.{Session}
+use Rattle.steps.specs.declared.Fixed.{Fixed}
+use Rattle.steps.specs.Steps.{State, Step, octetStep}
+use Rattle.records.specs.Sound.{isEnded, directionOf, sound, refusalOf}
+use Rattle.session.specs.Calls.{stateOf, fixedOf, takenFor, sessionAfter, Outcome, refused, unlessRefused, outcome, arrived, endStep, endOutcome, ended as sessionEnded}
+use Rattle.steps.specs.Takes.{Took, stopOf, takes}
+use Rattle.records.proofs.Refusals.{refusal-cases}
+use Rattle.steps.proofs.Stops.{unless-stopped}
 use Rattle.history.specs.Gateway.{outcomeOf}
 use Rattle.history.proofs.Places.{Stands, holding, flowing, passing, ended, NoAuth, Agrees}
 use Rattle.history.proofs.Items.{Speaks}

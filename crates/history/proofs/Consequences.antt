@@ -35,23 +35,12 @@ use Rattle.rules.specs.Demand3.{
 }
 use Rattle.rules.proofs.Consequences.{same-client as any-same-client, same-history as any-same-history}
 use Rattle.rules.specs.declared.Answer.{Answer}
-use Rattle.session.specs.declared.Session.{Session}
-use Rattle.session.specs.declared.Fixed.{Fixed}
-use Rattle.session.specs.Steps.{State, Step, octetStep}
-use Rattle.session.specs.Calls.{
-  Took,
-  stateOf,
-  fixedOf,
-  stopOf,
-  takes,
-  Outcome,
-  refused,
-  outcome,
-  arrived,
-  endOutcome,
-  ended as sessionEnded,
-}
-use Rattle.session.proofs.Stops.{stop-cases, unless-stopped}
+use Rattle.records.specs.declared.Session.{Session}
+use Rattle.steps.specs.declared.Fixed.{Fixed}
+use Rattle.steps.specs.Steps.{State, Step, octetStep}
+use Rattle.steps.specs.Takes.{Took, stopOf, takes}
+use Rattle.session.specs.Calls.{stateOf, fixedOf, Outcome, refused, outcome, arrived, endOutcome, ended as sessionEnded}
+use Rattle.steps.proofs.Stops.{stop-cases, unless-stopped}
 use Rattle.history.specs.Gateway.{outcomeOf, gateway}
 use Rattle.history.proofs.ByOctets.{reading-grows}
 use Rattle.history.proofs.Calls.{unless-refused, refused-items}

@@ -6,7 +6,7 @@ use native.Mathlib.Nat.{mod-add-mod, mod-mod}
 use lib.ListN.{length}
 use Rattle.rules.specs.Answers.{Side, client, server, wrapped, offsetOf}
 use Rattle.rules.specs.History.{Item, octet, end, textOf, takenFrom}
-use Rattle.session.specs.declared.Counts.{Counts}
+use Rattle.records.specs.declared.Counts.{Counts}
 use Rattle.session.specs.Calls.{counted, takenFor}
 
 -- a direction's counts stand for t octets taken and w written

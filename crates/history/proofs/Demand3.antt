@@ -46,9 +46,10 @@ use Rattle.rules.specs.Demand3.{
   Demand3,
 }
 use Rattle.effects.specs.declared.Place.{Place}
-use Rattle.session.specs.declared.Session.{Session}
-use Rattle.session.specs.declared.Fixed.{Fixed}
-use Rattle.session.specs.Calls.{Outcome, sound, soundDirection, isHolding, freshSession, offset}
+use Rattle.records.specs.declared.Session.{Session}
+use Rattle.steps.specs.declared.Fixed.{Fixed}
+use Rattle.session.specs.Calls.{Outcome, freshSession, offset}
+use Rattle.records.specs.Sound.{sound, soundDirection, isHolding}
 use Rattle.history.specs.ByOctets.{byOctets}
 use Rattle.history.specs.Gateway.{Fresh, outcomeOf, Promise, gateway}
 use Rattle.history.proofs.ByOctets.{by-octets}

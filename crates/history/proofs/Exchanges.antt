@@ -12,7 +12,7 @@ use Rattle.rules.specs.Exchanges.{exchanges, exchanges-opened}
 use Rattle.kinds.specs.Kinds.{kinds-opened}
 use Rattle.gives.specs.Text.{gives-opened}
 use Rattle.effects.specs.Effects.{effects-opened}
-use Rattle.session.specs.Steps.{steps-opened}
+use Rattle.steps.specs.Steps.{steps-opened}
 use Rattle.session.specs.Calls.{calls-opened}
 use Rattle.history.specs.Exchanges.{calledBoth, printedBoth, calls-exchanges-opened}
 

@@ -18,10 +18,10 @@ use Rattle.rules.specs.declared.Answer.{Answer}
 use Rattle.rules.specs.declared.Command.{Command}
 use Rattle.rules.specs.declared.Kind.{Kind}
 use Rattle.rules.specs.declared.PassiveReply.{PassiveReply}
-use Rattle.session.specs.declared.Session.{Session}
+use Rattle.records.specs.declared.Session.{Session}
 use Rattle.gives.specs.Text.{givesText}
 use Rattle.effects.specs.Effects.{commandEffect, kindEffect, passiveEffect}
-use Rattle.session.specs.declared.Fixed.{Fixed}
+use Rattle.steps.specs.declared.Fixed.{Fixed}
 use Rattle.session.specs.Calls.{Outcome, prepared, freshSession}
 use Rattle.history.specs.Gateway.{Fresh, Promise, outcomeOf}
 use Rattle.history.proofs.Queue.{queue-fresh}

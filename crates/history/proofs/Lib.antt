@@ -8,7 +8,6 @@ pub mod Steps
 pub mod Counts
 pub mod Calls
 pub mod Fresh
-pub mod Promises
 pub mod Demand3
 pub mod Consequences
 pub mod Exchanges

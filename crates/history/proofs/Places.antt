@@ -63,8 +63,8 @@ use Rattle.effects.specs.Effects.{
   replyOctet,
   replyEffect,
 }
-use Rattle.session.specs.declared.Fixed.{Fixed}
-use Rattle.session.specs.Steps.{stored, flowsOrEnded, passesFromNow}
+use Rattle.steps.specs.declared.Fixed.{Fixed}
+use Rattle.steps.specs.Steps.{stored, flowsOrEnded, passesFromNow}
 use Rattle.history.specs.ByOctets.{lineEndGives, clientGives}
 use Rattle.history.proofs.ByOctets.{
   six,

@@ -28,7 +28,7 @@ use Rattle.kinds.specs.Kinds.{
 }
 use Rattle.effects.specs.Effects.{kindRemoved, headRemoved, lineRemoves}
 use Rattle.queue.proofs.Listed.{Listed, pushed-front, listed-push, shifted-front, listed-leave}
-use Rattle.session.specs.Steps.{owedThen}
+use Rattle.steps.specs.Steps.{owedThen}
 
 -- ---- lists
 

@@ -30,11 +30,13 @@ use Rattle.effects.specs.declared.ClientEffect.{ClientEffect}
 use Rattle.effects.specs.declared.ServerEffect.{ServerEffect}
 use Rattle.kinds.specs.Kinds.{headOf}
 use Rattle.effects.specs.Effects.{clientEffect, serverEffect}
-use Rattle.session.specs.declared.Fixed.{Fixed}
-use Rattle.session.specs.Steps.{State, Step, owedThen, settledState, clientState, clientEffectIn, clientStep, serverState, serverEffectIn, serverStep, octetStep}
-use Rattle.session.specs.Calls.{isPassing, Took, stopOf, takes, endStep}
-use Rattle.session.proofs.Stops.{stop-none, unless-stopped}
-use Rattle.session.proofs.Turns.{place-owed}
+use Rattle.steps.specs.declared.Fixed.{Fixed}
+use Rattle.steps.specs.Steps.{State, Step, owedThen, settledState, clientState, clientEffectIn, clientStep, serverState, serverEffectIn, serverStep, octetStep}
+use Rattle.records.specs.Sound.{isPassing}
+use Rattle.steps.specs.Takes.{Took, stopOf, takes}
+use Rattle.session.specs.Calls.{endStep}
+use Rattle.steps.proofs.Stops.{stop-none, unless-stopped}
+use Rattle.steps.proofs.Turns.{place-owed}
 use Rattle.history.specs.ByOctets.{clientGives}
 use Rattle.history.proofs.Queue.{Queue, RoomFor, queue-push, queue-first, firstOf}
 use Rattle.history.proofs.Places.{

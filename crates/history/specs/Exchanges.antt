@@ -5,7 +5,7 @@ use Rattle.rules.specs.Octets.{choose}
 use Rattle.rules.specs.Answers.{Side}
 use Rattle.rules.specs.History.{Item, octet, end, sameSide}
 use Rattle.rules.specs.Exchanges.{Exchange, exchange, allOn, greeting, serverSays, printed}
-use Rattle.session.specs.declared.Session.{Session}
+use Rattle.records.specs.declared.Session.{Session}
 use Rattle.session.specs.Calls.{Outcome, prepared, arrived, ended}
 use Rattle.history.specs.Gateway.{numberOf}
 

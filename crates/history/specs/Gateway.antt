@@ -7,7 +7,7 @@ use Rattle.rules.specs.Answers.{Side, client, server}
 use Rattle.rules.specs.Setup.{Setup}
 use Rattle.rules.specs.Demand3.{Call, arrival, ending, Return, Gateway, lentServer, lentClient}
 use Rattle.rules.specs.declared.Answer.{Answer}
-use Rattle.session.specs.declared.Session.{Session}
+use Rattle.records.specs.declared.Session.{Session}
 use Rattle.session.specs.declared.Called.{Called}
 use Rattle.session.specs.declared.DirectionOffset.{DirectionOffset}
 use Rattle.session.specs.Calls.{Outcome, prepared, arrived, ended as sessionEnded, offset as sessionOffset}

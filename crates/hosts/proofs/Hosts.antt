@@ -7,7 +7,7 @@ use Rattle.rules.specs.Answers.{answerNumber}
 use Rattle.rules.specs.Setup.{Setup}
 use Rattle.rules.specs.Demand3.{Call, arrival, ending, Return, Made, Calls, none, next, itemsOf, historyOf, goneToServer, goneToClient, Demand3}
 use Rattle.rules.specs.declared.Answer.{Answer}
-use Rattle.session.specs.declared.Session.{Session}
+use Rattle.records.specs.declared.Session.{Session}
 use Rattle.session.specs.declared.Prepared.{Prepared}
 use Rattle.session.specs.Calls.{Outcome, prepared, freshSession}
 use Rattle.answers.specs.Table.{Call as TableCall, Result, arrival as arrivalResult, ending as endingResult}

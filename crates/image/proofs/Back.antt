@@ -12,9 +12,9 @@ use Rattle.rules.specs.Octets.{choose, every}
 use Rattle.rules.specs.Lines.{judged}
 use Rattle.rules.specs.Answers.{mostOwed}
 use Rattle.effects.specs.declared.Place.{Place}
-use Rattle.session.specs.declared.Session.{Session}
+use Rattle.records.specs.declared.Session.{Session}
 use Rattle.session.specs.Calls.{deadSession}
-use Rattle.session.proofs.Refusals.{sound-countable}
+use Rattle.records.proofs.Refusals.{sound-countable}
 use Rattle.image.specs.Image.{
   imageSize,
   bit,

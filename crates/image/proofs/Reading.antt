@@ -1,21 +1,21 @@
 -- A part of an image copied into an array, and the places that have the same number.
 use mathlib.Core.Path.{_≡_, refl, ap, sym, _∙_}
 use mathlib.Core.Bool.{Bool, true, false, _&&_, not}
-use mathlib.Core.List.{List, _++_, append-nil}
+use mathlib.Core.List.{List}
 use Prim.Native.Nat.{ℕ, zero, suc, _+_, _≤_, _<_}
 use native.Mathlib.Omega.{arith}
-use lib.ListN.{length, drop, replicate, length-replicate, length-drop, drop-of-length-le}
+use lib.ListN.{length, drop, replicate, length-drop}
 use lib.Dec.{leb}
 use lib.Seq.{length-take-le}
 use borrow.Author.Tests.{le-leb, lt-leb, not-true, not-false}
 use Rattle.rules.specs.Octets.{choose}
 use Rattle.effects.specs.declared.Place.{Place}
 use Rattle.output.specs.Buffer.{placed}
-use Rattle.session.specs.declared.Control.{Control}
-use Rattle.session.specs.declared.Counts.{Counts}
-use Rattle.session.specs.declared.Session.{Session}
+use Rattle.output.proofs.Front.{filled}
+use Rattle.records.specs.declared.Control.{Control}
+use Rattle.records.specs.declared.Counts.{Counts}
+use Rattle.records.specs.declared.Session.{Session}
 use Rattle.session.specs.Calls.{deadSession}
-use Rattle.session.proofs.Placing.{front-placed}
 use Rattle.image.specs.Image.{imageSize, placeOf, isSet, part, countsAt, controlIn, fieldsIn, atMost, isImage, sessionOf}
 
 pub place-other : (n : ℕ) → (n ≡ 0 → ⊥) → (n ≡ 1 → ⊥) → (n ≡ 2 → ⊥) → Place.Ended ≡ placeOf n
@@ -24,15 +24,6 @@ place-other zero a b c = absurd (a refl)
 place-other (suc zero) a b c = absurd (b refl)
 place-other (suc (suc zero)) a b c = absurd (c refl)
 place-other (suc (suc (suc n))) a b c = refl
-
--- a text as long as the buffer takes the place of all of it
-pub fills : (out text : List ℕ) → length text ≡ length out → placed out 0 text ≡ text
-fills out text same =
-    front-placed out text (omega arith) ∙ (ap (λ (rest : List ℕ). text ++ rest) (drop-of-length-le out {i = length text} (omega arith)) ∙ append-nil text)
-
--- an array made of zeros and a text of its length is that text
-pub filled : (n : ℕ) (text : List ℕ) → length text ≡ n → placed (replicate n 0) 0 text ≡ text
-filled n text same = fills (replicate n 0) text (omega (arith, length-replicate {A = ℕ} n 0))
 
 -- a part of an image that was copied
 pub copied : (image : List ℕ) (i n : ℕ) → i + n ≤ length image → {r : List ℕ} → r ≡ placed (replicate n 0) 0 (part image i n)

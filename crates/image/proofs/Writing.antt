@@ -6,7 +6,7 @@ use native.Mathlib.Omega.{arith}
 use lib.ListN.{length, length-append}
 use Rattle.output.specs.Buffer.{PlacedInRoom}
 use Rattle.output.proofs.Placing.{Wrote, joined}
-use Rattle.session.specs.declared.Session.{Session}
+use Rattle.records.specs.declared.Session.{Session}
 use Rattle.image.specs.Image.{Sized, imageSize, fourOctets, marksOf, numbersOf, arraysOf, imageOf}
 
 -- a part that was put, and those behind it

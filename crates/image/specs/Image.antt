@@ -8,10 +8,11 @@ use lib.ListN.{length, getD, take, drop, replicate}
 use Rattle.rules.specs.Octets.{choose, every}
 use Rattle.effects.specs.declared.Place.{Place}
 use Rattle.effects.specs.Effects.{at}
-use Rattle.session.specs.declared.Control.{Control}
-use Rattle.session.specs.declared.Counts.{Counts}
-use Rattle.session.specs.declared.Session.{Session}
-use Rattle.session.specs.Calls.{deadSession, sound}
+use Rattle.records.specs.declared.Control.{Control}
+use Rattle.records.specs.declared.Counts.{Counts}
+use Rattle.records.specs.declared.Session.{Session}
+use Rattle.session.specs.Calls.{deadSession}
+use Rattle.records.specs.Sound.{sound}
 
 -- 7 marks, 7 numbers of four octets, 16 and 4 octets of addresses, 16 kinds, two lines of 511
 abbrev pub imageSize : ℕ

@@ -7,11 +7,13 @@ ghost use Rattle.session.specs.Calls.{deadSession};
 ghost use Rattle.image.specs.Image.{bit as bitOf, placeNumber, fourOctets, capped as cappedAt, marksOf, numbersOf, arraysOf, imageOf, placeOf, numberAt, part, countsAt, controlIn, fieldsIn, atMost, sessionOf};
 use effects::Direction;
 use effects::Place;
+use output::four;
 use output::put;
+use output::sixteen;
+use records::Control;
+use records::Counts;
+use records::Session;
 use rules::Switches;
-use session::Control;
-use session::Counts;
-use session::Session;
 use session::refused_setup;
 
 // The octets of an image.
@@ -254,24 +256,6 @@ fn wide(octet: u8) -> u32
     ensures { λ r. ⌜ r ≤ 255 ⌝ }
 {
     octet as u32
-}
-
-// Sixteen octets as an array; zeros where there are more than sixteen, and behind fewer.
-pub fn sixteen(octets: &[u8]) -> [u8; 16]
-    ensures { λ r. ⌜ r ≡ placed (replicate 16 0) 0 (now (octets .entry)) ⌝ }
-{
-    let mut out = [0u8; 16];
-    put(&mut out, 0, octets);
-    out
-}
-
-// Four octets as an array; zeros where there are more than four, and behind fewer.
-pub fn four(octets: &[u8]) -> [u8; 4]
-    ensures { λ r. ⌜ r ≡ placed (replicate 4 0) 0 (now (octets .entry)) ⌝ }
-{
-    let mut out = [0u8; 4];
-    put(&mut out, 0, octets);
-    out
 }
 
 fn line(octets: &[u8]) -> [u8; 511]

@@ -1,8 +1,8 @@
-// Octets and decimal numbers put into a lent buffer, whole or not at all.
+// Octets and decimal numbers put into a lent buffer, or octets into an array, whole or not at all.
 ghost use mathlib.Core.Path.{_≡_};
 ghost use Prim.Native.Nat.{_+_, _%_, _≤_};
 ghost use lib.Dec.{leb};
-ghost use lib.ListN.{length};
+ghost use lib.ListN.{length, replicate};
 ghost use Rattle.rules.specs.Octets.{decimal};
 ghost use Rattle.output.specs.Buffer.{placed, placeAfter};
 
@@ -30,6 +30,24 @@ pub fn put(out: &mut [u8], at: usize, src: &[u8]) -> usize
         i += 1;
     }
     at + i
+}
+
+// Sixteen octets as an array; zeros where there are more than sixteen, and behind fewer.
+pub fn sixteen(octets: &[u8]) -> [u8; 16]
+    ensures { λ r. ⌜ r ≡ placed (replicate 16 0) 0 (now (octets .entry)) ⌝ }
+{
+    let mut sixteen = [0u8; 16];
+    put(&mut sixteen, 0, octets);
+    sixteen
+}
+
+// Four octets as an array; zeros where there are more than four, and behind fewer.
+pub fn four(octets: &[u8]) -> [u8; 4]
+    ensures { λ r. ⌜ r ≡ placed (replicate 4 0) 0 (now (octets .entry)) ⌝ }
+{
+    let mut four = [0u8; 4];
+    put(&mut four, 0, octets);
+    four
 }
 
 pub fn decimal_length(n: u16) -> usize

@@ -9,10 +9,10 @@ ghost use Rattle.queue.specs.Heads.{answerFirst};
 use kinds::Owes;
 use kinds::code_of;
 use kinds::kind_of;
+use own::answer_length;
+use own::put_answer;
 use rules::Kind;
 use rules::OwnAnswer;
-use writers::answer_length;
-use writers::put_answer;
 
 // How far the own answers at the head of a queue reach, and how many octets they have in all.
 pub struct AnswersDue {

@@ -11,11 +11,11 @@ use Rattle.rules.specs.declared.Answer.{Answer}
 use Rattle.output.specs.Buffer.{placed}
 use Rattle.session.specs.declared.Called.{Called}
 use Rattle.session.specs.declared.Prepared.{Prepared}
-use Rattle.session.specs.declared.Session.{Session}
+use Rattle.records.specs.declared.Session.{Session}
 use Rattle.session.specs.declared.DirectionOffset.{DirectionOffset}
 use Rattle.session.specs.Calls.{Outcome, prepared, offset}
 use Rattle.image.specs.Image.{imageSize, imageOf, sessionOf}
-use Rattle.image.proofs.Reading.{filled}
+use Rattle.output.proofs.Front.{filled}
 use Rattle.relay.specs.Host.{
   refusedSetup,
   preparedFrom,

@@ -15,11 +15,12 @@ use Rattle.rules.specs.Answers.{Side, mostOwed, wrapped, answerNumber}
 use Rattle.rules.specs.declared.Answer.{Answer}
 use Rattle.output.specs.Buffer.{placed}
 use Rattle.output.proofs.Placing.{length-placed}
-use Rattle.session.specs.declared.Session.{Session}
+use Rattle.records.specs.declared.Session.{Session}
 use Rattle.session.specs.Bounds.{Shaped}
-use Rattle.session.specs.Steps.{Step}
-use Rattle.session.specs.Calls.{Took, Outcome, refused, unlessRefused, outcome, sessionAfter, arrived, endOutcome, ended, prepared, deadSession, freshSession}
-use Rattle.session.proofs.Placing.{front-placed}
+use Rattle.steps.specs.Steps.{Step}
+use Rattle.steps.specs.Takes.{Took}
+use Rattle.session.specs.Calls.{Outcome, refused, unlessRefused, outcome, sessionAfter, arrived, endOutcome, ended, prepared, deadSession, freshSession}
+use Rattle.output.proofs.Front.{front-placed}
 use Rattle.answers.specs.Table.{Call, Result, arrival, ending, Sound, BadFlags}
 use Rattle.answers.proofs.Refusals.{sound-words}
 use Rattle.answers.proofs.Kept.{calls-keep, fresh-kept}

@@ -9,7 +9,7 @@ use Rattle.rules.specs.Octets.{every}
 use Rattle.rules.specs.Answers.{answerNumber}
 use Rattle.rules.specs.declared.Answer.{Answer}
 use Rattle.output.specs.Buffer.{placed}
-use Rattle.session.specs.declared.Session.{Session}
+use Rattle.records.specs.declared.Session.{Session}
 use Rattle.session.specs.Bounds.{Shaped}
 use Rattle.session.specs.Calls.{Outcome, freshSession}
 use Rattle.answers.specs.Table.{Call, Result, Sound}

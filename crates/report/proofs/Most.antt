@@ -14,15 +14,17 @@ use Rattle.rules.specs.Setup.{setupAnswer}
 use Rattle.rules.specs.declared.Answer.{Answer}
 use Rattle.rules.specs.declared.Answer.the-variants as a
 use Rattle.output.proofs.Decimal.{decimal-most}
-use Rattle.session.specs.declared.Session.{Session}
-use Rattle.session.specs.Steps.{Step}
-use Rattle.session.specs.Calls.{Outcome, refused, refusalOf, unlessRefused, outcome, takes, fixedOf, stateOf, arrived, endStep, endOutcome, ended, prepared}
+use Rattle.records.specs.declared.Session.{Session}
+use Rattle.steps.specs.Steps.{Step}
+use Rattle.session.specs.Calls.{Outcome, refused, unlessRefused, outcome, fixedOf, stateOf, arrived, endStep, endOutcome, ended, prepared}
+use Rattle.records.specs.Sound.{refusalOf}
+use Rattle.steps.specs.Takes.{takes}
 use Rattle.octets.proofs.Ranges.{and-both}
-use Rattle.session.proofs.Fits.{takes-fit}
+use Rattle.steps.proofs.Fits.{takes-fit}
 use Rattle.files.specs.declared.Verdict.{Verdict}
 use Rattle.files.specs.Contents.{count, verdict, verdictNumber}
-use Rattle.files.specs.Report.{Done, outRoom, standsAsItself, hexGlyph, shown, shownAll, field, entryLine, setUp, runEntry, doneBy}
-use Rattle.files.proofs.Fields.{line-of-parts, line-length, header-length, refused-length}
+use Rattle.fields.specs.Report.{Done, outRoom, standsAsItself, hexGlyph, shown, shownAll, field, entryLine, setUp, runEntry, doneBy}
+use Rattle.fields.proofs.Fields.{line-of-parts, line-length, header-length, refused-length}
 use Rattle.files.proofs.Accepted.{accepted}
 use Rattle.report.specs.declared.Progress.{Progress}
 use Rattle.report.specs.declared.Replay.{Replay}

@@ -9,13 +9,13 @@ use Rattle.rules.specs.Octets.{choose}
 use Rattle.output.specs.Buffer.{placed, placeAfter}
 use Rattle.output.proofs.Placing.{nothing-placed}
 use Rattle.files.specs.declared.Verdict.{Verdict}
-use Rattle.session.specs.declared.Session.{Session}
+use Rattle.records.specs.declared.Session.{Session}
 use Rattle.session.specs.Calls.{deadSession}
 use Rattle.files.specs.Contents.{pairAt, count, tableEnd, verdict}
-use Rattle.files.specs.Report.{Done, runEntry, headerLine}
-use Rattle.files.specs.Parts.{doneOf}
+use Rattle.fields.specs.Report.{Done, runEntry, headerLine}
+use Rattle.fields.specs.Parts.{doneOf}
 use Rattle.files.proofs.Tables.{kind-at, length-at}
-use Rattle.files.proofs.Fields.{header-length}
+use Rattle.fields.proofs.Fields.{header-length}
 use Rattle.report.specs.declared.Progress.{Progress}
 use Rattle.report.specs.declared.Replay.{Replay}
 use Rattle.report.specs.declared.Part.{Part}

@@ -12,12 +12,14 @@ use Rattle.rules.specs.Octets.{choose}
 use Rattle.rules.specs.Answers.{Side, sideOf, answerNumber, fits}
 use Rattle.rules.specs.declared.Answer.{Answer}
 use Rattle.session.specs.declared.Called.{Called}
-use Rattle.session.specs.declared.Fixed.{Fixed}
+use Rattle.steps.specs.declared.Fixed.{Fixed}
 use Rattle.session.specs.declared.Prepared.{Prepared}
-use Rattle.session.specs.declared.Session.{Session}
-use Rattle.session.specs.Steps.{State, Step, octetStep}
-use Rattle.session.specs.Calls.{Took, Outcome, prepared, unlessStopped, stopOf, takes, refused, refusalOf, unlessRefused, outcome, fixedOf, stateOf, arrived, endStep, endOutcome, ended}
-use Rattle.files.specs.Report.{Done, outRoom, doneBy, setUp, runEntry}
+use Rattle.records.specs.declared.Session.{Session}
+use Rattle.steps.specs.Steps.{State, Step, octetStep}
+use Rattle.steps.specs.Takes.{Took, unlessStopped, stopOf, takes}
+use Rattle.session.specs.Calls.{Outcome, prepared, refused, unlessRefused, outcome, fixedOf, stateOf, arrived, endStep, endOutcome, ended}
+use Rattle.records.specs.Sound.{refusalOf}
+use Rattle.fields.specs.Report.{Done, outRoom, doneBy, setUp, runEntry}
 use Rattle.report.specs.declared.Ran.{Ran}
 use Rattle.report.specs.Ran.{ranBy, ranOf}
 

@@ -13,10 +13,10 @@ use borrow.Author.Tests.{eq-eqb, ne-eqb, eqb-true, eqb-false, lt-ltb, le-leb, lt
 use Rattle.rules.specs.Octets.{oct, choose}
 use Rattle.output.specs.Buffer.{placed}
 use Rattle.output.proofs.Placing.{take-placed}
-use Rattle.session.specs.declared.Session.{Session}
+use Rattle.records.specs.declared.Session.{Session}
 use Rattle.files.specs.declared.Verdict.{Verdict}
 use Rattle.files.specs.Contents.{Entry, entryOf, entries, count, tableEnd, tableOf, bodiesLength, verdict}
-use Rattle.files.specs.Report.{Done, entryLine, entryLines}
+use Rattle.fields.specs.Report.{Done, entryLine, entryLines}
 use Rattle.files.proofs.Tables.{entries-next}
 use Rattle.files.proofs.Accepted.{Accepted, accepted}
 use Rattle.report.specs.declared.Progress.{Progress}

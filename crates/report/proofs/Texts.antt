@@ -10,9 +10,9 @@ use lib.ListN.{length, length-append}
 use borrow.Author.Tests.{eq-eqb, ne-eqb}
 use Rattle.rules.specs.Octets.{oct, choose}
 use Rattle.output.specs.Buffer.{fitsAt, placeAfter}
-use Rattle.files.specs.Report.{Done, entryLine}
-use Rattle.files.specs.Parts.{doneOf}
-use Rattle.files.proofs.Fields.{line-of-parts, line-length}
+use Rattle.fields.specs.Report.{Done, entryLine}
+use Rattle.fields.specs.Parts.{doneOf}
+use Rattle.fields.proofs.Fields.{line-of-parts, line-length}
 use Rattle.report.specs.declared.Progress.{Progress}
 use Rattle.report.specs.declared.Replay.{Replay}
 use Rattle.report.specs.declared.Part.{Part}

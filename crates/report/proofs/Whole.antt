@@ -10,7 +10,7 @@ use Rattle.rules.specs.Octets.{choose}
 use Rattle.output.specs.Buffer.{placed}
 use Rattle.files.specs.declared.Verdict.{Verdict}
 use Rattle.files.specs.Contents.{count, tableEnd, tableOf, verdict, verdictNumber}
-use Rattle.files.specs.Report.{acceptedReport, refusedLine, reportBy, report}
+use Rattle.fields.specs.Report.{acceptedReport, refusedLine, reportBy, report}
 use Rattle.files.proofs.Accepted.{accepted}
 use Rattle.report.specs.declared.Progress.{Progress}
 use Rattle.report.specs.declared.Replay.{Replay}

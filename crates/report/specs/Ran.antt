@@ -4,7 +4,7 @@ use Prim.Native.Nat.{ℕ}
 use lib.ListN.{length}
 use Rattle.rules.specs.Answers.{answerNumber}
 use Rattle.session.specs.declared.Called.{Called}
-use Rattle.files.specs.Report.{Done}
+use Rattle.fields.specs.Report.{Done}
 use Rattle.report.specs.declared.Ran.{Ran}
 
 -- how much was written stands for what was written, which lies in the buffers

@@ -8,7 +8,7 @@ use Rattle.rules.specs.Octets.{oct, choose}
 use Rattle.session.specs.Calls.{deadSession}
 use Rattle.files.specs.declared.Verdict.{Verdict}
 use Rattle.files.specs.Contents.{Entry, entryOf, count, tableEnd, verdict, verdictNumber}
-use Rattle.files.specs.Report.{Done, runEntry, entryLine, headerLine, refusedLine}
+use Rattle.fields.specs.Report.{Done, runEntry, entryLine, headerLine, refusedLine}
 use Rattle.report.specs.declared.Progress.{Progress}
 use Rattle.report.specs.declared.Replay.{Replay}
 use Rattle.report.specs.declared.Part.{Part}

@@ -4,7 +4,7 @@ use mathlib.Core.List.{List, [], _∷_, _++_, flatten}
 use Prim.Native.Nat.{ℕ, _≤_}
 use lib.ListN.{length, take}
 use Rattle.output.specs.Buffer.{placed}
-use Rattle.files.specs.Report.{report}
+use Rattle.fields.specs.Report.{report}
 use Rattle.report.specs.declared.Progress.{Progress}
 use Rattle.report.specs.declared.Replay.{Replay}
 use Rattle.report.specs.Replays.{firstText, firstPart, nextText, nextPart}

@@ -12,7 +12,7 @@ use Rattle.rules.specs.Octets.{choose}
 use Rattle.rules.specs.Setup.{bit, setupSwitches, badFlags, setupAnswer}
 use Rattle.rules.specs.declared.Answer.{Answer}
 use Rattle.session.specs.declared.Prepared.{Prepared}
-use Rattle.session.specs.declared.Session.{Session}
+use Rattle.records.specs.declared.Session.{Session}
 use Rattle.session.specs.Calls.{startSession, startControl, deadSession, freshSession, prepared}
 
 abbrev pub shifted : ℕ → ℕ → Bool

@@ -1,45 +1,30 @@
 -- What a call promises, from what its parts promise.
-use mathlib.Core.Path.{_≡_, sym, ap, _∙_}
+use mathlib.Core.Path.{_≡_, refl, sym, ap, _∙_}
 use mathlib.Core.Bool.{Bool, true, false, and-true}
 use mathlib.Core.List.{List, [], _++_}
 use mathlib.Core.Option.{Option, none}
-use Prim.Native.Nat.{ℕ, _≤_, _<_}
-use lib.Dec.{leb, leb·zero}
+use Prim.Native.Nat.{ℕ, zero, suc, _≤_, _<_}
+use lib.Dec.{eqb, eqb·suc-zero, leb, leb·zero}
 use lib.ListN.{length, drop}
 use lib.Seq.{length-take-le}
 use borrow.Author.Tests.{lt-leb}
 use Rattle.rules.specs.Answers.{Side, client, server, sideOf, fits}
 use Rattle.rules.specs.declared.Answer.{Answer}
 use Rattle.session.specs.declared.Called.{Called}
-use Rattle.session.specs.declared.Counts.{Counts}
-use Rattle.session.specs.declared.Session.{Session}
-use Rattle.session.specs.declared.Written.{Written}
-use Rattle.session.specs.declared.refusing.Refusal.{Refusal}
-use Rattle.session.specs.Steps.{State, Step}
-use Rattle.session.specs.Calls.{
-  Took,
-  Outcome,
-  counted,
-  takenFor,
-  takes,
-  fixedOf,
-  stateOf,
-  sessionAfter,
-  refused,
-  refusalOf,
-  unlessRefused,
-  outcome,
-  arrived,
-  endStep,
-  endOutcome,
-  ended,
-}
-use Rattle.session.specs.Core.{Core, coreFrom, coreTook}
-use Rattle.session.specs.Refused.{refusalBy}
-use Rattle.session.proofs.Sides.{not-zero}
-use Rattle.session.proofs.Refusals.{by-answer}
-use Rattle.session.proofs.Placing.{front-placed}
-use Rattle.session.proofs.Fits.{takes-fit}
+use Rattle.records.specs.declared.Counts.{Counts}
+use Rattle.records.specs.declared.Session.{Session}
+use Rattle.steps.specs.declared.Written.{Written}
+use Rattle.records.specs.declared.Refusal.{Refusal}
+use Rattle.steps.specs.Steps.{State, Step}
+use Rattle.steps.specs.Takes.{Took, takes}
+use Rattle.session.specs.Calls.{Outcome, counted, takenFor, fixedOf, stateOf, sessionAfter, refused, unlessRefused, outcome, arrived, endStep, endOutcome, ended}
+use Rattle.records.specs.Sound.{refusalOf}
+use Rattle.steps.specs.Core.{Core, sideIf, coreFrom, coreTook}
+use Rattle.records.specs.Sound.{refusalBy}
+use Rattle.records.proofs.Sides.{not-zero}
+use Rattle.records.proofs.Refusals.{by-answer}
+use Rattle.output.proofs.Front.{front-placed}
+use Rattle.steps.proofs.Fits.{takes-fit}
 
 -- a call's result r, and its buffers before and after
 abbrev pub Promised : Outcome → Called → List ℕ → List ℕ → List ℕ → List ℕ → Type 0
@@ -79,6 +64,11 @@ turned-away s o w a out other p q e = rw (by-answer o a (sym p ∙ q)) (promised
 
 -- ---- an arrival
 
+-- the side that the code's test names
+pub side-tested : (d : ℕ) → sideIf (eqb d 0) ≡ sideOf d
+side-tested zero = refl
+side-tested (suc d) = rw (eqb·suc-zero d)
+
 -- side is the direction's, which does not refuse
 module _ (s : Session) (d : ℕ) (octets out other : List ℕ) (side : Side) (same : side ≡ sideOf d) (free : refusalOf s d ≡ none) where
   abbrev pub taking : Took
@@ -88,11 +78,14 @@ module _ (s : Session) (d : ℕ) (octets out other : List ℕ) (side : Side) (sa
   unfolding arrived unlessRefused
   unrefused = rw (free, same)
 
-  pub arrives : {a : Answer} {n : ℕ} {t : State} {out′ other′ : List ℕ} {w : Written} {s′ : Session} → a ≡ taking .answer → n ≡ taking .taken
-      → coreFrom t out′ other′ w ≡ coreTook taking out other → s′ ≡ sessionAfter s side n (w .server) (w .client) t
+  pub arrives : {took : Took} {a : Answer} {n : ℕ} {t : State} {out′ other′ : List ℕ} {w : Written} {s′ : Session} → took ≡ taking → a ≡ took .answer
+      → n ≡ took .taken → coreFrom t out′ other′ w ≡ coreTook took out other → s′ ≡ sessionAfter s side n (w .server) (w .client) t
       → Promised (arrived s d octets (length out) (length other)) (record { answer = a; taken = n; written = w; session = s′ }) out other out′ other′
   unfolding coreTook outcome
-  arrives {t = t} {w = w} p q k e =
+  arrives {t = t} {w = w} all p₀ q₀ k₀ e =
+      let p = p₀ ∙ ap (λ (x : Took). x .answer) all in
+      let q = q₀ ∙ ap (λ (x : Took). x .taken) all in
+      let k = k₀ ∙ ap (λ (x : Took). coreTook x out other) all in
       let fit = takes-fit (fixedOf s) side (stateOf s) octets (length out) (length other) in
       let st : t ≡ taking .state = ap (λ (x : Core). x .state) k in
       let size : w ≡ record { server = length (taking .toServer); client = length (taking .toClient) } = ap (λ (x : Core). x .written) k in (

@@ -8,8 +8,8 @@ use lib.Dec.{ltb}
 use borrow.Author.Tests.{ltb-true, ltb-false}
 use Rattle.rules.specs.Answers.{wrapped, offsetOf}
 use Rattle.session.specs.declared.DirectionOffset.{DirectionOffset}
-use Rattle.session.specs.declared.Counts.{Counts}
-use Rattle.session.specs.declared.Session.{Session}
+use Rattle.records.specs.declared.Counts.{Counts}
+use Rattle.records.specs.declared.Session.{Session}
 use Rattle.session.specs.Calls.{offset}
 
 -- what is added may be wrapped first

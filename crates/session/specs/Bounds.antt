@@ -9,9 +9,10 @@ use lib.ListN.{length}
 use Rattle.rules.specs.Octets.{every}
 use Rattle.rules.specs.Answers.{Side, sideOf, mostOwed, mostToServer, mostToClient, isQueueFull}
 use Rattle.rules.specs.Lines.{judged}
-use Rattle.session.specs.declared.Session.{Session}
-use Rattle.session.specs.Steps.{Step, octetStep}
-use Rattle.session.specs.Calls.{sound, refusalOf, isPassing, stateOf, fixedOf, arrived}
+use Rattle.records.specs.declared.Session.{Session}
+use Rattle.steps.specs.Steps.{Step, octetStep}
+use Rattle.records.specs.Sound.{sound, refusalOf, isPassing}
+use Rattle.session.specs.Calls.{stateOf, fixedOf, arrived}
 
 -- what the types of a record's arrays say of it
 pub record Shaped (s : Session) : Type 0 where

@@ -1,41 +1,28 @@
 -- What setup, arrival, end and offset answer, take, write and leave in the record.
 use mathlib.Core.Bool.{Bool, true, false}
-use mathlib.Core.List.{List, [], _∷_, _++_}
+use mathlib.Core.List.{List, []}
 use mathlib.Core.Option.{Option, none, some}
 use Prim.Native.Nat.{ℕ, zero, suc, _+_, _-_}
 use lib.ListN.{length, take, replicate}
-use Rattle.rules.specs.Octets.{choose, every}
-use Rattle.rules.specs.Answers.{
-  Side,
-  client,
-  server,
-  sideOf,
-  mostOwed,
-  isQueueFull,
-  fits,
-  soundHeld,
-  soundRecord,
-  refusal,
-  stop,
-  wrapped,
-  offsetOf,
-}
+use Rattle.rules.specs.Octets.{choose}
+use Rattle.rules.specs.Answers.{Side, client, server, sideOf, mostOwed, fits, wrapped, offsetOf}
 use Rattle.rules.specs.Setup.{eprtSupported, setupSwitches, badFlags, setupAnswer}
 use Rattle.rules.specs.Lines.{judged}
 use Rattle.rules.specs.declared.Answer.{Answer}
 use Rattle.rules.specs.declared.Switches.{Switches}
 use Rattle.effects.specs.declared.Place.{Place}
 use Rattle.effects.specs.declared.Direction.{Direction}
-use Rattle.session.specs.declared.Control.{Control}
-use Rattle.session.specs.declared.Counts.{Counts}
-use Rattle.session.specs.declared.Fixed.{Fixed}
-use Rattle.session.specs.declared.Session.{Session}
+use Rattle.records.specs.declared.Control.{Control}
+use Rattle.records.specs.declared.Counts.{Counts}
+use Rattle.records.specs.declared.Session.{Session}
+use Rattle.records.specs.Sound.{refusalOf, sound-opened}
+use Rattle.steps.specs.declared.Fixed.{Fixed}
 use Rattle.session.specs.declared.Prepared.{Prepared}
 use Rattle.session.specs.declared.Called.{Called}
 use Rattle.session.specs.declared.DirectionOffset.{DirectionOffset}
-use Rattle.kinds.specs.Kinds.{isListed}
 use Rattle.effects.specs.Effects.{at}
-use Rattle.session.specs.Steps.{State, Step, octetStep}
+use Rattle.steps.specs.Steps.{State, Step}
+use Rattle.steps.specs.Takes.{Took, takes, takes-opened}
 
 -- ---- setup
 
@@ -85,91 +72,13 @@ unfoldable pub prepared : List ℕ → List ℕ → ℕ → Prepared
 prepared address mapped flags =
     record { answer = setupAnswer flags; session = choose (badFlags flags) deadSession (freshSession address mapped flags) }
 
--- ---- what is refused
-
-abbrev pub isHolding : Place → Bool
-isHolding Place.Holding = true
-isHolding Place.Flowing = false
-isHolding Place.Passing = false
-isHolding Place.Ended = false
-
-abbrev pub isPassing : Place → Bool
-isPassing Place.Holding = false
-isPassing Place.Flowing = false
-isPassing Place.Passing = true
-isPassing Place.Ended = false
-
-abbrev pub isEnded : Place → Bool
-isEnded Place.Holding = false
-isEnded Place.Flowing = false
-isEnded Place.Passing = false
-isEnded Place.Ended = true
-
-unfoldable pub soundDirection : Direction → Bool
-soundDirection d = soundHeld (isHolding (d .place)) (d .held)
-
--- number 4 is not given
-unfoldable pub sound : Session → Bool
-sound s =
-    let c = s .control in
-    soundRecord (s .live) (c .owed) (every isListed (take (c .owed) (s .kinds))) (soundDirection (c .client))
-    (soundDirection (c .server))
-
-abbrev pub directionOf : Side → Control → Direction
-directionOf client c = c .client
-directionOf server c = c .server
-
--- what refuses a call on a direction
-unfoldable pub refusalOf : Session → ℕ → Option Answer
-refusalOf s d = refusal d (sound s) (isEnded (directionOf (sideOf d) (s .control) .place))
-
--- ---- octet by octet
+-- ---- what an arrival works on
 
 abbrev pub stateOf : Session → State
 stateOf s = record { control = s .control; command = s .command; reply = s .reply; kinds = s .kinds }
 
 abbrev pub fixedOf : Session → Fixed
 fixedOf s = record { client = s .client; mapped = s .mapped; supported = s .supported }
-
--- the octets taken, what was written for them, and what stopped the call
-pub record Took : Type 0 where
-  pub answer : Answer
-  pub taken : ℕ
-  pub toServer : List ℕ
-  pub toClient : List ℕ
-  pub state : State
-
-abbrev pub tookNothing : Answer → State → Took
-tookNothing a s = record { answer = a; taken = 0; toServer = []; toClient = []; state = s }
-
--- an octet's step, and what is taken after it
-abbrev pub andThen : Step → Took → Took
-andThen t r =
-    record {
-      answer = r .answer;
-      taken = suc (r .taken);
-      toServer = t .toServer ++ r .toServer;
-      toClient = t .toClient ++ r .toClient;
-      state = r .state;
-    }
-
-unfoldable pub unlessStopped : Option Answer → State → Took → Took
-unlessStopped none s r = r
-unlessStopped (some a) s r = tookNothing a s
-
--- what stops a call before an octet that would give the step t
-unfoldable pub stopOf : Side → State → Step → ℕ → ℕ → Option Answer
-stopOf d s t serverRoom clientRoom =
-    stop (isQueueFull d (isPassing (s .control .client .place)) (s .control .owed))
-    (fits (t .toServer) (t .toClient) serverRoom clientRoom)
-
-unfoldable pub takes : Fixed → Side → State → List ℕ → ℕ → ℕ → Took
-takes f d s [] serverRoom clientRoom = tookNothing Answer.Done s
-takes f d s (x ∷ xs) serverRoom clientRoom =
-    let t = octetStep f d s x in
-    let r = takes f d (t .state) xs (serverRoom - length (t .toServer)) (clientRoom - length (t .toClient)) in
-    let next = andThen t r in
-    unlessStopped (stopOf d s t serverRoom clientRoom) s next
 
 -- ---- the record after a call
 
@@ -296,5 +205,5 @@ offset s (suc (suc d)) = DirectionOffset.UnknownDirection
 
 -- this page's definitions, for a proof that computes with them
 unfoldable pub calls-opened : Unit {0}
-unfolding freshSession deadSession prepared soundDirection sound refusalOf unlessStopped stopOf takes sessionAfter refused unlessRefused outcome arrived endStep endOutcome ended offset
+unfolding sound-opened takes-opened freshSession deadSession prepared sessionAfter refused unlessRefused outcome arrived endStep endOutcome ended offset
 calls-opened = tt

@@ -6,62 +6,20 @@ ghost use lib.ListN.{length, drop};
 ghost use Prim.Native.Nat.{_≤_};
 ghost use Rattle.rules.specs.Answers.{wrapped, client as clientSide, server as serverSide};
 ghost use Rattle.session.specs.Calls.{prepared, startSession, startControl, deadSession, stateOf, arrived, endStep, endOutcome, ended, refused as refusedOutcome, counted as countedBy, sessionAfter, offset as offsetIn};
-ghost use Rattle.session.specs.Core.{stateFrom, sideIf};
+ghost use Rattle.steps.specs.Core.{stateFrom, sideIf};
 use effects::Direction;
 use effects::Place;
 use output::put;
-use refusing::Refusal;
-use refusing::refusal_of;
+use records::Control;
+use records::Counts;
+use records::Refusal;
+use records::Session;
+use records::refusal_of;
 use rules::Answer;
 use rules::Switches;
-use taking::take;
-
-mod octet;
-mod refusing;
-mod settling;
-mod taking;
-
-// What the session does next, apart from the octets held and the kinds owed.
-pub struct Control {
-    pub switches: Switches,
-    pub client: Direction,
-    pub server: Direction,
-    pub owed: usize,
-    pub unfinished: bool,
-}
-
-// What a setup fixes: the client's address, its mapped address, and whether EPRT is supported.
-pub struct Fixed {
-    pub client: [u8; 16],
-    pub mapped: [u8; 4],
-    pub supported: bool,
-}
-
-// Octets taken from a direction and written for it, in 32 bits that wrap.
-pub struct Counts {
-    pub taken: u32,
-    pub written: u32,
-}
-
-// The record.
-pub struct Session {
-    pub live: bool,
-    pub client: [u8; 16],
-    pub mapped: [u8; 4],
-    pub supported: bool,
-    pub control: Control,
-    pub command: [u8; 511],
-    pub reply: [u8; 511],
-    pub kinds: [u8; 16],
-    pub up: Counts,
-    pub down: Counts,
-}
-
-// How many octets have been written into each buffer.
-pub struct Written {
-    pub server: usize,
-    pub client: usize,
-}
+use steps::Fixed;
+use steps::Written;
+use steps::take;
 
 // What setup returns.
 pub struct Prepared {

@@ -121,7 +121,7 @@ fn put_command(out: &mut [u8], line: &[u8]) -> usize {
         Command::Auth => output::put(out, 0, b"passes, AUTH\n"),
         Command::Passive => writers::put_pasv(out, 0),
         Command::Port(port) => writers::put_port_line(out, 0, MAPPED, port),
-        Command::Answered(answer) => writers::put_answer(out, 0, answer),
+        Command::Answered(answer) => own::put_answer(out, 0, answer),
     }
 }
 

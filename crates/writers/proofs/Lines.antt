@@ -1,6 +1,5 @@
 -- The lines that the gateway writes, as the parts that are placed one after another.
-use mathlib.Core.Path.{_≡_, refl, ap, _∙_}
-use mathlib.Core.Bool.{Bool, true, false}
+use mathlib.Core.Path.{_≡_, ap, _∙_}
 use mathlib.Core.List.{List, [], _∷_, _++_, append-assoc}
 use Prim.Native.Nat.{ℕ, _/_, _%_, _<_, _≤_}
 use native.Mathlib.Omega.{arith}
@@ -8,9 +7,7 @@ use lib.ListN.{length, getD, length-append, drop-of-length-le}
 use lib.Seq.{drop-cons}
 use Rattle.rules.specs.Octets.{oct, comma, decimal}
 use Rattle.rules.specs.Commands.{commas, portLine}
-use Rattle.rules.specs.Replies.{extendedPassiveLine, stateLine, answerLine}
-use Rattle.rules.specs.declared.OwnAnswer.{OwnAnswer}
-use Rattle.rules.specs.declared.OwnAnswer.the-variants.{ProtocolNotSupported, ParameterNotImplemented, State}
+use Rattle.rules.specs.Replies.{extendedPassiveLine}
 use Rattle.output.proofs.Decimal.{decimal-most}
 
 -- two numbers with a comma between, and what follows them
@@ -52,23 +49,3 @@ port-most l p e octets h =
 pub extended-passive-most : (p : ℕ) → p < 65536 → length (extendedPassiveLine p) ≤ 48
 unfolding extendedPassiveLine
 extended-passive-most p h = simp length-append (omega (arith, decimal-most 4 p (omega arith)))
-
--- only EPSVEPRT is longer
-pub state-short : (eprt : Bool) → length (stateLine false eprt) ≡ 10
-unfolding stateLine
-state-short false = refl
-state-short true = refl
-
-state-most : (epsv eprt : Bool) → length (stateLine epsv eprt) ≤ 48
-unfolding stateLine
-state-most false false = omega arith
-state-most false true = omega arith
-state-most true false = omega arith
-state-most true true = omega arith
-
--- no answer is longer than 48 octets
-pub answer-most : (a : OwnAnswer) → length (answerLine a) ≤ 48
-unfolding answerLine
-answer-most ProtocolNotSupported = omega arith
-answer-most ParameterNotImplemented = omega arith
-answer-most (State sw) = state-most (sw .epsv) (sw .eprt)

@@ -1,17 +1,15 @@
-// The lines that the gateway writes, each with its length known before it is written. A line goes in whole or not at all.
+// The lines that the gateway writes for a command or a reply, each with its length known before it is written. A line goes in whole or not at all.
 use output::decimal_length;
 use output::has_room;
 use output::put;
 use output::put_decimal;
-use rules::OwnAnswer;
-use rules::Switches;
 ghost use mathlib.Core.Path.{_≡_};
 ghost use mathlib.Core.List.{[], _∷_, _++_};
 ghost use Prim.Native.Nat.{_≤_};
 ghost use lib.ListN.{length};
 ghost use Rattle.rules.specs.Octets.{decimal};
 ghost use Rattle.rules.specs.Commands.{commas, pasvLine, portLine};
-ghost use Rattle.rules.specs.Replies.{extendedPassiveLine, stateLine, answerLine};
+ghost use Rattle.rules.specs.Replies.{extendedPassiveLine};
 ghost use Rattle.output.specs.Buffer.{placed, placeAfter, PlacedInRoom};
 
 pub fn pasv_length() -> usize
@@ -93,46 +91,4 @@ fn put_pair(out: &mut [u8], at: usize, a: u8, b: u8, after: &[u8]) -> usize
 {
     let next = put_number(out, at, a as u16, b",");
     put_number(out, next, b as u16, after)
-}
-
-pub fn answer_length(a: OwnAnswer) -> usize
-    ensures { λ r. ⌜ r ≡ length (answerLine a) ⌝ }
-{
-    match a {
-        OwnAnswer::ProtocolNotSupported => 36,
-        OwnAnswer::ParameterNotImplemented => 48,
-        OwnAnswer::State(on) => { if on.epsv && on.eprt { 14 } else { 10 } }
-    }
-}
-
-pub fn put_answer(out: &mut [u8], at: usize, a: OwnAnswer) -> usize
-    ensures { λ r. ⌜ r ≡ placeAfter (now (out .entry)) at (answerLine a) ⌝ }
-    ensures { λ r. ⌜ now (out .exit) ≡ placed (now (out .entry)) at (answerLine a) ⌝ }
-{
-    match a {
-        OwnAnswer::ProtocolNotSupported => put(out, at, b"522 Network protocol not supported\r\n"),
-        OwnAnswer::ParameterNotImplemented => put(
-            out,
-            at,
-            b"504 Command not implemented for that parameter\r\n",
-        ),
-        OwnAnswer::State(on) => put_state(out, at, on),
-    }
-}
-
-// The 216 line, by the switches that are on.
-fn put_state(out: &mut [u8], at: usize, on: Switches) -> usize
-    ensures { λ r. ⌜ r ≡ placeAfter (now (out .entry)) at (stateLine (on .epsv) (on .eprt)) ⌝ }
-    ensures { λ r. ⌜ now (out .exit) ≡ placed (now (out .entry)) at (stateLine (on .epsv) (on .eprt)) ⌝ }
-{
-    if on.epsv {
-        if on.eprt {
-            return put(out, at, b"216 EPSVEPRT\r\n");
-        }
-        return put(out, at, b"216 EPSV\r\n");
-    }
-    if on.eprt {
-        return put(out, at, b"216 EPRT\r\n");
-    }
-    put(out, at, b"216 NONE\r\n")
 }

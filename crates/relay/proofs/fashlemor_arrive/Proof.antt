@@ -1,6 +1,6 @@
 -- `relay::fashlemor_arrive`: the arrival on the record that was read, and what is kept and counted of it.
 use lib.ListN.{length}
-use Rattle.session.specs.declared.Session.{Session}
+use Rattle.records.specs.declared.Session.{Session}
 use Rattle.session.specs.Calls.{arrived}
 use Rattle.relay.specs.Host.{arrivedAt}
 use Rattle.relay.proofs.Calls.{told}

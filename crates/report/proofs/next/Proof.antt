@@ -3,7 +3,7 @@ use mathlib.Core.Path.{sym, _∙_}
 use native.Mathlib.Omega.{arith}
 use lib.Seq.{length-take-le}
 use borrow.Author.Tests.{not-true, not-false}
-use Rattle.files.specs.Report.{outRoom}
+use Rattle.fields.specs.Report.{outRoom}
 use Rattle.report.proofs.Due.{due, body-within, body-most, body-setup}
 use Rattle.report.proofs.Runs.{written-within}
 use Rattle.report.proofs.Parts.{over, next-put}

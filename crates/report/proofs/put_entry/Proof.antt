@@ -6,8 +6,8 @@ use lib.ListN.{length}
 use borrow.Author.Tests.{leb-true, leb-false, not-true, not-false}
 use Rattle.rules.specs.Octets.{oct}
 use Rattle.output.proofs.Placing.{no-room, joined, written}
-use Rattle.files.specs.Report.{entryLine}
-use Rattle.files.specs.Parts.{doneOf}
+use Rattle.fields.specs.Report.{entryLine}
+use Rattle.fields.specs.Parts.{doneOf}
 use Rattle.report.specs.Replays.{entryText}
 use Rattle.report.proofs.Texts.{at-zero, other, stops, stop-length}
 use borrow.Author.Needs.{needs}

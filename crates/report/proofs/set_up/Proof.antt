@@ -3,7 +3,7 @@ use mathlib.Core.Path.{sym, _∙_}
 use native.Mathlib.Omega.{arith}
 use lib.ListN.{take, drop, length-drop}
 use lib.Seq.{length-take-le}
-use Rattle.image.proofs.Reading.{filled}
+use Rattle.output.proofs.Front.{filled}
 use Rattle.report.proofs.Runs.{setup-ran}
 use borrow.Author.Needs.{needs}
 use Rattle.report.proofs.set_up.Statement.{statement}

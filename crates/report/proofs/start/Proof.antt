@@ -4,7 +4,7 @@ use native.Mathlib.Omega.{arith}
 use Rattle.rules.specs.Octets.{octets-opened}
 use Rattle.files.specs.declared.Verdict.{Verdict}
 use Rattle.files.specs.Contents.{verdictNumber}
-use Rattle.files.specs.Report.{refusedLine}
+use Rattle.fields.specs.Report.{refusedLine}
 use Rattle.report.specs.Replays.{firstTextBy, firstReplayBy}
 use Rattle.report.proofs.Parts.{first-put, header-put}
 use borrow.Author.Needs.{needs}

@@ -1,10 +1,11 @@
 -- `session::arrive` meets its contract: a refusal, or what `take` left, whose texts have room.
 use mathlib.Core.Path.{sym, _∙_}
 use borrow.Author.Needs.{needs}
-use Rattle.session.specs.Calls.{arrived}
-use Rattle.session.proofs.Refusals.{by-nothing, countable}
-use Rattle.session.proofs.Sides.{side-tested}
-use Rattle.session.proofs.Outcomes.{turned-away, arrives}
+use lib.ListN.{length}
+use Rattle.session.specs.Calls.{stateOf, fixedOf, arrived}
+use Rattle.records.proofs.Refusals.{by-nothing, countable}
+use Rattle.steps.proofs.Takes.{took-all, counts-holdable}
+use Rattle.session.proofs.Outcomes.{side-tested, turned-away, arrives}
 use Rattle.session.proofs.arrive.Statement.{statement}
 use Rattle.session.proofs.arrive.Tie as tie
 
@@ -27,10 +28,7 @@ enum-told : tie.Need-enum-told
 enum-told c = search needs
 
 take-requires : tie.Need-take-requires
-take-requires c κs =
-    let a = c .before .before .before .before .before .before .before .before .before .before .before .before .before .before .before .before .args in
-    let k = countable (a .session) (a .direction) (by-nothing _ (sym (c .before .before .before .before .before .before .before .before .before .before .before .before .refusal-of .ensures) ∙ c .before .before .before .before .before .before .before .before .before .before .enum-told .given .1)) in
-    (k .owed, k .command, k .reply)
+take-requires c κs = search needs
 
 after-requires : tie.Need-after-requires
 after-requires c κs = search needs
@@ -46,7 +44,10 @@ returns-2 c =
     let a = c .before .before .before .before .before .before .before .before .before .before .before .before .before .before .before .before .before .before .before .before .before .before .before .before .before .args in
     let free = by-nothing _ (sym (c .before .before .before .before .before .before .before .before .before .before .before .before .before .before .before .before .before .before .before .before .before .refusal-of .ensures) ∙ c .before .before .before .before .before .before .before .before .before .before .before .before .before .before .before .before .before .before .before .enum-told .given .1) in
     let t = c .before .before .before .before .before .before .before .before .take in
+    let k = countable (a .session) (a .direction) free in
+    let all = took-all (fixedOf (a .session)) _ (stateOf (a .session)) (a .octets .now) (length (a .to-server .now)) (length (a .to-client .now)) (counts-holdable (a .session .control) (k .owed) (k .command) (k .reply)) in
     arrives (a .session) (a .direction) (a .octets .now) (a .to-server .now) (a .to-client .now) _ (side-tested (a .direction)) free
+    all
     (t .ensures .0 .0)
     (t .ensures .0 .1)
     (t .ensures .1)

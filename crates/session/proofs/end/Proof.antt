@@ -6,7 +6,7 @@ use lib.ListN.{length}
 use borrow.Author.Needs.{needs}
 use Rattle.rules.specs.Answers.{client, server}
 use Rattle.session.specs.Calls.{stateOf, endStep, ended}
-use Rattle.session.proofs.Refusals.{by-nothing, countable}
+use Rattle.records.proofs.Refusals.{by-nothing, countable}
 use Rattle.session.proofs.Outcomes.{client-ends, server-ends, untouched, turned-away}
 use Rattle.session.proofs.end.Statement.{statement}
 use Rattle.session.proofs.end.Tie as tie

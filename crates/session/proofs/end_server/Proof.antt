@@ -8,7 +8,7 @@ use borrow.Author.Tests.{le-leb}
 use borrow.Author.Needs.{needs}
 use Rattle.rules.specs.Answers.{server}
 use Rattle.session.specs.Calls.{stateOf, endStep, endOutcome, outcome}
-use Rattle.session.proofs.Placing.{put-size, put-text}
+use Rattle.output.proofs.Front.{put-size, put-text}
 use Rattle.session.proofs.Outcomes.{no-room, passed-on}
 use Rattle.session.proofs.end_server.Statement.{statement}
 use Rattle.session.proofs.end_server.Tie as tie

@@ -1,0 +1,24 @@
+-- `fields::put_part` meets its contract: the octets placed after the field.
+use Rattle.output.proofs.Placing.{joined}
+use Rattle.fields.specs.Report.{field}
+use borrow.Author.Needs.{needs}
+use Rattle.fields.proofs.put_part.Statement.{statement}
+use Rattle.fields.proofs.put_part.Tie as tie
+
+put-field-requires : tie.Need-put-field-requires
+put-field-requires c κs = search needs
+
+put-requires : tie.Need-put-requires
+put-requires c κs = search needs
+
+same-length : tie.Need-same-length
+same-length c = search needs
+
+returns : tie.Need-returns
+returns c =
+    let d = c .before .before .before .before .before .before in
+    let a = d .before .before .before .before .before .args in
+    joined (a .out .now) (a .at) (field (a .octets .now)) (a .after .now) (λ _. d .put-field .ensures) (λ _. c .before .before .put .ensures)
+
+pub put-part-spec : {M : Type 1} → statement M
+put-part-spec = tie.close (tie.spec put-field-requires put-requires same-length returns)

@@ -1,0 +1,2 @@
+-- From the session's contracts to the promises of demand 3.
+mod Promises

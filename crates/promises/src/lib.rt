@@ -1,0 +1,53 @@
+// The session's functions once more, with the promises that demand 3 is proved from as their contracts: that the session keeps them is proved, not read.
+ghost use mathlib.Core.Path.{_≡_};
+ghost use Prim.Native.Nat.{_<_};
+ghost use Rattle.rules.specs.Answers.{sideOf};
+ghost use Rattle.rules.specs.Demand3.{arrival, ending};
+ghost use Rattle.session.specs.Calls.{prepared, offset as offsetIn};
+ghost use Rattle.history.specs.Gateway.{gateway, returned};
+use records::Session;
+use rules::Answer;
+use session::Called;
+use session::DirectionOffset;
+use session::Prepared;
+
+// A setup that answers 0 returns a fresh session.
+pub fn promised_setup(client: [u8; 16], mapped: [u8; 4], flags: u8) -> Prepared
+    ensures { λ r. ⌜ r ≡ prepared client mapped flags ⌝ }
+    ensures { λ r. ⌜ (r .answer ≡ Answer.Done → gateway .Fresh (record { client = client; mapped = mapped; flags = flags }) (r .session)) ⌝ }
+{
+    session::setup(client, mapped, flags)
+}
+
+// An arrival keeps the promise of a call.
+pub fn promised_arrival(
+    session: Session,
+    direction: u8,
+    octets: &[u8],
+    to_server: &mut [u8],
+    to_client: &mut [u8],
+) -> Called
+    ensures { λ r. ⌜ gateway .Promise session (arrival direction (now (octets .entry)) (now («to_server» .entry)) (now («to_client» .entry))) (returned r (now («to_server» .exit)) (now («to_client» .exit))) ⌝ }
+{
+    session::arrive(session, direction, octets, to_server, to_client)
+}
+
+// An end keeps the promise of a call.
+pub fn promised_end(
+    session: Session,
+    direction: u8,
+    to_server: &mut [u8],
+    to_client: &mut [u8],
+) -> Called
+    ensures { λ r. ⌜ gateway .Promise session (ending direction (now («to_server» .entry)) (now («to_client» .entry))) (returned r (now («to_server» .exit)) (now («to_client» .exit))) ⌝ }
+{
+    session::end(session, direction, to_server, to_client)
+}
+
+// The offset of a direction that there is, is the gateway's.
+pub fn promised_offset(session: Session, direction: u8) -> DirectionOffset
+    ensures { λ r. ⌜ r ≡ offsetIn session direction ⌝ }
+    ensures { λ r. ⌜ (direction < 2 → r ≡ DirectionOffset.Is (gateway .offset session (sideOf direction))) ⌝ }
+{
+    session::offset(session, direction)
+}

@@ -1,0 +1,3 @@
+-- Laws that the proofs of this crate's functions, and of those above it, cite.
+pub mod Sides
+pub mod Refusals

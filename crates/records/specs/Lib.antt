@@ -1,0 +1,2 @@
+-- Which records and calls are refused, on the declared structs.
+pub mod Sound

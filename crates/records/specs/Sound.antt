@@ -1,0 +1,60 @@
+-- Which records number 4 refuses, and which calls are refused at all.
+use mathlib.Core.Bool.{Bool, true, false}
+use mathlib.Core.Option.{Option, none, some}
+use Prim.Native.Nat.{ℕ}
+use lib.ListN.{take}
+use Rattle.rules.specs.Octets.{every}
+use Rattle.rules.specs.Answers.{Side, client, server, sideOf, soundHeld, soundRecord, refusal}
+use Rattle.rules.specs.declared.Answer.{Answer}
+use Rattle.kinds.specs.Kinds.{isListed}
+use Rattle.effects.specs.declared.Place.{Place}
+use Rattle.effects.specs.declared.Direction.{Direction}
+use Rattle.records.specs.declared.Control.{Control}
+use Rattle.records.specs.declared.Session.{Session}
+use Rattle.records.specs.declared.Refusal.{Refusal}
+
+abbrev pub isHolding : Place → Bool
+isHolding Place.Holding = true
+isHolding Place.Flowing = false
+isHolding Place.Passing = false
+isHolding Place.Ended = false
+
+abbrev pub isPassing : Place → Bool
+isPassing Place.Holding = false
+isPassing Place.Flowing = false
+isPassing Place.Passing = true
+isPassing Place.Ended = false
+
+abbrev pub isEnded : Place → Bool
+isEnded Place.Holding = false
+isEnded Place.Flowing = false
+isEnded Place.Passing = false
+isEnded Place.Ended = true
+
+unfoldable pub soundDirection : Direction → Bool
+soundDirection d = soundHeld (isHolding (d .place)) (d .held)
+
+-- number 4 is not given
+unfoldable pub sound : Session → Bool
+sound s =
+    let c = s .control in
+    soundRecord (s .live) (c .owed) (every isListed (take (c .owed) (s .kinds))) (soundDirection (c .client))
+    (soundDirection (c .server))
+
+abbrev pub directionOf : Side → Control → Direction
+directionOf client c = c .client
+directionOf server c = c .server
+
+-- what refuses a call on a direction
+unfoldable pub refusalOf : Session → ℕ → Option Answer
+refusalOf s d = refusal d (sound s) (isEnded (directionOf (sideOf d) (s .control) .place))
+
+-- the same, as the code's answer
+unfoldable pub refusalBy : Option Answer → Refusal
+refusalBy none = Refusal.Nothing
+refusalBy (some a) = Refusal.By a
+
+-- this page's definitions, for a proof that computes with them
+unfoldable pub sound-opened : Unit {0}
+unfolding soundDirection sound refusalOf
+sound-opened = tt

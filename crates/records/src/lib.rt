@@ -1,0 +1,137 @@
+// The record of a session, and which calls on it are refused before an octet is looked at.
+ghost use mathlib.Core.Path.{_≡_};
+ghost use Prim.Native.Nat.{_≤_};
+ghost use lib.ListN.{take};
+ghost use Rattle.rules.specs.Octets.{every};
+ghost use Rattle.rules.specs.Answers.{sideOf};
+ghost use Rattle.kinds.specs.Kinds.{isListed};
+ghost use Rattle.records.specs.Sound.{soundDirection, sound as soundIn, isEnded, directionOf, refusalOf, refusalBy};
+use effects::Direction;
+use effects::Place;
+use rules::Answer;
+use rules::Switches;
+
+// What the session does next, apart from the octets held and the kinds owed.
+pub struct Control {
+    pub switches: Switches,
+    pub client: Direction,
+    pub server: Direction,
+    pub owed: usize,
+    pub unfinished: bool,
+}
+
+// Octets taken from a direction and written for it, in 32 bits that wrap.
+pub struct Counts {
+    pub taken: u32,
+    pub written: u32,
+}
+
+// The record.
+pub struct Session {
+    pub live: bool,
+    pub client: [u8; 16],
+    pub mapped: [u8; 4],
+    pub supported: bool,
+    pub control: Control,
+    pub command: [u8; 511],
+    pub reply: [u8; 511],
+    pub kinds: [u8; 16],
+    pub up: Counts,
+    pub down: Counts,
+}
+
+// What refuses a call, if anything does.
+pub enum Refusal {
+    By(Answer),
+    Nothing,
+}
+
+// Every kind owed is listed.
+fn kinds_listed(kinds: [u8; 16], owed: usize) -> bool
+    requires { ⌜ owed ≤ 16 ⌝ }
+    ensures { λ r. ⌜ r ≡ every isListed (take owed kinds) ⌝ }
+{
+    let mut i = 0;
+    while i < owed {
+        if 8 < kinds[i] {
+            return false;
+        }
+        i += 1;
+    }
+    true
+}
+
+// A direction holds octets only where it may, and not too many.
+fn sound_direction(direction: Direction) -> bool
+    ensures { λ r. ⌜ r ≡ soundDirection direction ⌝ }
+{
+    let place = direction.place;
+    match place {
+        Place::Holding => direction.held <= 511,
+        Place::Flowing => direction.held == 0,
+        Place::Passing => direction.held == 0,
+        Place::Ended => direction.held == 0,
+    }
+}
+
+// The record is none that number 4 refuses.
+fn sound(session: Session) -> bool
+    ensures { λ r. ⌜ r ≡ soundIn session ⌝ }
+{
+    let control = session.control;
+    if !session.live {
+        return false;
+    }
+    if 16 < control.owed {
+        return false;
+    }
+    let kinds = session.kinds;
+    if !kinds_listed(kinds, control.owed) {
+        return false;
+    }
+    let client = control.client;
+    if !sound_direction(client) {
+        return false;
+    }
+    let server = control.server;
+    sound_direction(server)
+}
+
+fn has_ended(direction: Direction) -> bool
+    ensures { λ r. ⌜ r ≡ isEnded (direction .place) ⌝ }
+{
+    let place = direction.place;
+    match place {
+        Place::Ended => true,
+        Place::Holding => false,
+        Place::Flowing => false,
+        Place::Passing => false,
+    }
+}
+
+// The direction of a number, the server's for every number but 0.
+fn direction_of(control: Control, number: u8) -> Direction
+    ensures { λ r. ⌜ r ≡ directionOf (sideOf number) control ⌝ }
+{
+    if number == 0 {
+        return control.client;
+    }
+    control.server
+}
+
+// What refuses a call on the direction of a number: 3, 4, 6, in this order.
+pub fn refusal_of(session: Session, direction: u8) -> Refusal
+    ensures { λ r. ⌜ r ≡ refusalBy (refusalOf session direction) ⌝ }
+{
+    if 2 <= direction {
+        return Refusal::By(Answer::UnknownDirection);
+    }
+    if !sound(session) {
+        return Refusal::By(Answer::BadRecord);
+    }
+    let control = session.control;
+    if has_ended(direction_of(control, direction)) {
+        return Refusal::By(Answer::DirectionEnded);
+    }
+    Refusal::Nothing
+}
