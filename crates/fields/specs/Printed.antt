@@ -1,5 +1,5 @@
 -- "One whole output, for setup with flags 1, `220 hi`, `EPSV`, `227 x (192,0,2,31,237,19)`, each with CR LF".
-use mathlib.Core.List.{List, [], _∷_, _++_}
+use mathlib.Core.List.{List, _∷_, _++_}
 use Prim.Native.Nat.{ℕ}
 use Rattle.rules.specs.Octets.{oct}
 use Rattle.rules.specs.Exchanges.{allOn}

@@ -1,5 +1,5 @@
 -- What is true of a file that is not refused, and of each of its entries.
-use mathlib.Core.Path.{_≡_, refl, _∙_}
+use mathlib.Core.Path.{_≡_, refl}
 use mathlib.Core.Bool.{Bool, true, false, _&&_, not}
 use mathlib.Core.List.{List, [], _∷_}
 use Prim.Native.Nat.{ℕ, zero, suc, _+_, _*_, _<_, _≤_}
@@ -7,7 +7,7 @@ use native.Mathlib.Omega.{arith}
 use lib.Dec.{eqb, leb, ltb}
 use lib.ListN.{length, drop}
 use lib.Seq.{drop-drop}
-use borrow.Author.Tests.{ltb-false, leb-true, leb-false, eqb-true, not-false, lt-leb}
+use borrow.Author.Tests.{leb-true, eqb-true, not-false}
 use Rattle.rules.specs.Octets.{choose, within}
 use Rattle.octets.proofs.Ranges.{and-both}
 use Rattle.files.specs.declared.Verdict.{Verdict}

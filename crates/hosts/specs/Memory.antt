@@ -6,7 +6,7 @@ use Prim.Native.Nat.{ℕ, _≤_}
 use lib.Dec.{leb}
 use lib.ListN.{length}
 use Rattle.rules.specs.Octets.{every}
-use Rattle.rules.specs.Answers.{Side, answerNumber}
+use Rattle.rules.specs.Answers.{answerNumber}
 use Rattle.rules.specs.Setup.{Setup}
 use Rattle.rules.specs.Demand3.{Call, arrival, ending, Return, Gateway, lentServer, lentClient}
 use Rattle.rules.specs.declared.Answer.{Answer}

@@ -1,6 +1,4 @@
 -- What the code keeps of an entry that it ran.
-use mathlib.Core.List.{List}
-use Prim.Native.Nat.{ℕ}
 use lib.ListN.{length}
 use Rattle.rules.specs.Answers.{answerNumber}
 use Rattle.session.specs.declared.Called.{Called}
