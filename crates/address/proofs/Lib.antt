@@ -5,7 +5,5 @@ pub mod Hex
 pub mod Halves
 pub mod Readings
 pub mod Numbers
-pub mod Equal
 pub mod Wholes
 pub mod Texts
-pub mod Eprt

@@ -30,38 +30,24 @@ use Rattle.rules.specs.declared.Kind.{Kind}
 use Rattle.rules.specs.declared.Command.{Command}
 use Rattle.rules.specs.declared.ReplyLine.{ReplyLine}
 use Rattle.rules.specs.declared.PassiveReply.{PassiveReply}
-use Rattle.effects.specs.declared.Place.{Place}
-use Rattle.effects.specs.declared.Direction.{Direction}
+use Rattle.places.specs.declared.Place.{Place}
+use Rattle.places.specs.declared.Direction.{Direction}
 use Rattle.gives.specs.declared.Gives.{Gives}
 use Rattle.kinds.specs.declared.Owes.{Owes}
-use Rattle.effects.specs.declared.ClientEffect.{ClientEffect}
-use Rattle.effects.specs.declared.ServerEffect.{ServerEffect}
+use Rattle.upstream.specs.declared.ClientEffect.{ClientEffect}
+use Rattle.downstream.specs.declared.ServerEffect.{ServerEffect}
 use Rattle.kinds.specs.Kinds.{queueOf, headOf}
 use Rattle.gives.specs.Text.{givesText}
-use Rattle.effects.specs.Effects.{
-  commandEffect,
-  judgedEffect,
-  joinEffect,
-  placeEffect,
-  clientEffect,
-  passiveEffect,
-  kindEffect,
-  headEffect,
-  lineGives,
-  wholeLine,
-  flowingLine,
-  replyOctet,
-  replyEffect,
-  serverEffect,
-}
+use Rattle.upstream.specs.Upstream.{commandEffect, judgedEffect, joinEffect, placeEffect, clientEffect}
+use Rattle.downstream.specs.Downstream.{passiveEffect, kindEffect, headEffect, lineGives, wholeLine, flowingLine, replyOctet, replyEffect, serverEffect}
 use Rattle.octets.proofs.Choices.{either, by-test}
 use Rattle.queue.proofs.Answers.{length-queue}
 use Rattle.steps.specs.declared.Fixed.{Fixed}
 use Rattle.records.specs.declared.Session.{Session}
 use Rattle.steps.specs.Steps.{State, Step, owedThen, owedFrom, blocked, answersText, isAuthNext, settledText, clientState, clientEffectIn, clientStep, serverState, serverEffectIn, serverStep, octetStep}
-use Rattle.records.specs.Sound.{isPassing, sound, refusalOf}
+use Rattle.records.specs.Sound.{sound, refusalOf}
+use Rattle.steps.specs.Takes.{isPassing, unlessStopped, stopOf, takes}
 use Rattle.session.specs.Calls.{stateOf, fixedOf, unlessRefused, outcome, arrived}
-use Rattle.steps.specs.Takes.{unlessStopped, stopOf, takes}
 use Rattle.session.specs.Bounds.{WritesAtMost, OctetBound, Progress}
 use Rattle.steps.proofs.Turns.{place-owed}
 use Rattle.answers.proofs.Lengths.{isOctet, judged-most, port-line, pasv-line, passive-line, head-answers}

@@ -14,29 +14,21 @@ use Rattle.rules.specs.Answers.{Side, client, server, sideOf, mostOwed, isQueue
 use Rattle.rules.specs.Lines.{judged}
 use Rattle.rules.specs.declared.Switches.{Switches}
 use Rattle.rules.specs.declared.Answer.{Answer}
-use Rattle.effects.specs.declared.Place.{Place}
-use Rattle.effects.specs.declared.Direction.{Direction}
+use Rattle.places.specs.declared.Place.{Place}
+use Rattle.places.specs.declared.Direction.{Direction}
 use Rattle.kinds.specs.declared.Owes.{Owes}
-use Rattle.effects.specs.declared.ClientEffect.{ClientEffect}
-use Rattle.effects.specs.declared.ServerEffect.{ServerEffect}
+use Rattle.upstream.specs.declared.ClientEffect.{ClientEffect}
+use Rattle.downstream.specs.declared.ServerEffect.{ServerEffect}
 use Rattle.kinds.specs.Kinds.{headOf, pushed}
-use Rattle.effects.specs.Effects.{
-  judgedEffect,
-  joinEffect,
-  placeEffect,
-  clientEffect,
-  wholeLine,
-  flowingLine,
-  replyOctet,
-  replyEffect,
-  serverEffect,
-}
+use Rattle.upstream.specs.Upstream.{judgedEffect, joinEffect, placeEffect, clientEffect}
+use Rattle.downstream.specs.Downstream.{wholeLine, flowingLine, replyOctet, replyEffect, serverEffect}
 use Rattle.octets.proofs.Choices.{either, by-test}
 use Rattle.queue.proofs.Listed.{Listed, listed-push, listed-leave}
 use Rattle.steps.specs.declared.Fixed.{Fixed}
 use Rattle.records.specs.declared.Session.{Session}
 use Rattle.steps.specs.Steps.{State, owedThen, leaving, passesFromNow, isAuthNext, settledState, clientState, clientEffectIn, clientStep, serverState, serverEffectIn, serverStep, octetStep}
-use Rattle.records.specs.Sound.{isPassing, refusalOf}
+use Rattle.records.specs.Sound.{refusalOf}
+use Rattle.steps.specs.Takes.{isPassing}
 use Rattle.session.specs.Calls.{stateOf, fixedOf, sessionAfter, Outcome, refused, unlessRefused, outcome, arrived, endStep, endOutcome, ended, freshSession}
 use Rattle.session.specs.Bounds.{Shaped, WritesAtMost}
 use Rattle.steps.proofs.Octets.{length-stored}

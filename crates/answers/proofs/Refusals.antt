@@ -13,8 +13,8 @@ use Rattle.rules.specs.Octets.{choose, every}
 use Rattle.rules.specs.Answers.{sideOf, mostOwed, soundHeld, soundRecord}
 use Rattle.rules.specs.Lines.{judged}
 use Rattle.rules.specs.declared.Answer.{Answer}
-use Rattle.effects.specs.declared.Place.{Place}
-use Rattle.effects.specs.declared.Direction.{Direction}
+use Rattle.places.specs.declared.Place.{Place}
+use Rattle.places.specs.declared.Direction.{Direction}
 use Rattle.kinds.specs.Kinds.{isListed}
 use Rattle.octets.proofs.Ranges.{and-both}
 use Rattle.records.specs.declared.Session.{Session}

@@ -12,12 +12,11 @@ use lib.ListN.{length, take, getD, length-append}
 use borrow.Author.Tests.{leb-true, leb-false, ltb-true, ltb-false}
 use Rattle.rules.specs.Answers.{Side, client, sideOf, answerNumber, mostOwed, isQueueFull, fits, stop}
 use Rattle.rules.specs.declared.Answer.{Answer}
-use Rattle.effects.specs.declared.Place.{Place}
+use Rattle.places.specs.declared.Place.{Place}
 use Rattle.steps.specs.declared.Fixed.{Fixed}
 use Rattle.steps.specs.Steps.{State, Step, octetStep}
-use Rattle.records.specs.Sound.{isPassing}
+use Rattle.steps.specs.Takes.{isPassing, Took, tookNothing, andThen, stopOf, takes}
 use Rattle.session.specs.Calls.{stateOf, fixedOf}
-use Rattle.steps.specs.Takes.{Took, tookNothing, andThen, stopOf, takes}
 use Rattle.steps.proofs.Stops.{fits-room, stop-cases, unless-stopped}
 use Rattle.answers.specs.Table.{Call, octetSteps, before, next, Full, Exceeds}
 

@@ -8,8 +8,8 @@ use lib.ListN.{length, take, getD}
 use Rattle.rules.specs.Answers.{Side, client, server, sideOf, answerNumber, mostOwed}
 use Rattle.rules.specs.Lines.{judged}
 use Rattle.rules.specs.Setup.{eprtOn, eprtSupported}
-use Rattle.effects.specs.declared.Place.{Place}
-use Rattle.effects.specs.declared.Direction.{Direction}
+use Rattle.places.specs.declared.Place.{Place}
+use Rattle.places.specs.declared.Direction.{Direction}
 use Rattle.steps.specs.declared.Fixed.{Fixed}
 use Rattle.records.specs.declared.Session.{Session}
 use Rattle.steps.specs.Steps.{State, Step, octetStep}

@@ -110,7 +110,7 @@ fn eprt_command(on: bool, argument: &[u8], client: [u8; 16]) -> Command
     if !on {
         return Command::Passes;
     }
-    match address::eprt_argument(argument, client) {
+    match eprt::eprt_argument(argument, client) {
         EprtArgument::Port(port) => Command::Port(port),
         EprtArgument::Other => Command::Passes,
     }

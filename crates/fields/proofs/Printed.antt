@@ -10,7 +10,8 @@ use Rattle.rules.specs.Replies.{replies-opened}
 use Rattle.rules.specs.Exchanges.{exchanges-opened}
 use Rattle.kinds.specs.Kinds.{kinds-opened}
 use Rattle.gives.specs.Text.{gives-opened}
-use Rattle.effects.specs.Effects.{effects-opened}
+use Rattle.upstream.specs.Upstream.{upstream-opened}
+use Rattle.downstream.specs.Downstream.{downstream-opened}
 use Rattle.steps.specs.Steps.{steps-opened}
 use Rattle.session.specs.Calls.{calls-opened}
 use Rattle.files.specs.Contents.{contents-opened}
@@ -18,5 +19,5 @@ use Rattle.fields.specs.Report.{report, report-opened}
 use Rattle.fields.specs.Printed.{printedFile, printedReport, printed-opened}
 
 pub printed : report printedFile ≡ printedReport
-unfolding octets-opened answers-opened setup-opened lines-opened address-opened commands-opened replies-opened exchanges-opened kinds-opened gives-opened effects-opened steps-opened calls-opened contents-opened report-opened printed-opened
+unfolding octets-opened answers-opened setup-opened lines-opened address-opened commands-opened replies-opened exchanges-opened kinds-opened gives-opened upstream-opened downstream-opened steps-opened calls-opened contents-opened report-opened printed-opened
 printed = refl

@@ -11,7 +11,7 @@ use Rattle.rules.specs.History.{Item, octet, end, textOf, takenFrom}
 use Rattle.rules.specs.ToClient.{Place as Reading, ClientState, ServerState}
 use Rattle.rules.specs.Demand3.{Call, arrival, ending, endIfDone, isRefusal}
 use Rattle.rules.specs.declared.Answer.{Answer}
-use Rattle.effects.specs.declared.Place.{Place}
+use Rattle.places.specs.declared.Place.{Place}
 use Rattle.records.specs.declared.Session.{Session}
 use Rattle.steps.specs.declared.Fixed.{Fixed}
 use Rattle.steps.specs.Steps.{State, Step, octetStep}

@@ -45,7 +45,7 @@ use Rattle.rules.specs.Demand3.{
   Kept,
   Demand3,
 }
-use Rattle.effects.specs.declared.Place.{Place}
+use Rattle.places.specs.declared.Place.{Place}
 use Rattle.records.specs.declared.Session.{Session}
 use Rattle.steps.specs.declared.Fixed.{Fixed}
 use Rattle.session.specs.Calls.{Outcome, freshSession, offset}

@@ -11,11 +11,12 @@ use Rattle.rules.specs.Replies.{replies-opened}
 use Rattle.rules.specs.Exchanges.{exchanges, exchanges-opened}
 use Rattle.kinds.specs.Kinds.{kinds-opened}
 use Rattle.gives.specs.Text.{gives-opened}
-use Rattle.effects.specs.Effects.{effects-opened}
+use Rattle.upstream.specs.Upstream.{upstream-opened}
+use Rattle.downstream.specs.Downstream.{downstream-opened}
 use Rattle.steps.specs.Steps.{steps-opened}
 use Rattle.session.specs.Calls.{calls-opened}
 use Rattle.history.specs.Exchanges.{calledBoth, printedBoth, calls-exchanges-opened}
 
 pub twelve-exchanges-through-calls : map calledBoth exchanges ≡ map printedBoth exchanges
-unfolding octets-opened setup-opened answers-opened lines-opened address-opened commands-opened replies-opened exchanges-opened kinds-opened gives-opened effects-opened steps-opened calls-opened calls-exchanges-opened
+unfolding octets-opened setup-opened answers-opened lines-opened address-opened commands-opened replies-opened exchanges-opened kinds-opened gives-opened upstream-opened downstream-opened steps-opened calls-opened calls-exchanges-opened
 twelve-exchanges-through-calls = refl

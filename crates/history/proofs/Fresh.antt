@@ -20,7 +20,8 @@ use Rattle.rules.specs.declared.Kind.{Kind}
 use Rattle.rules.specs.declared.PassiveReply.{PassiveReply}
 use Rattle.records.specs.declared.Session.{Session}
 use Rattle.gives.specs.Text.{givesText}
-use Rattle.effects.specs.Effects.{commandEffect, kindEffect, passiveEffect}
+use Rattle.upstream.specs.Upstream.{commandEffect}
+use Rattle.downstream.specs.Downstream.{kindEffect, passiveEffect}
 use Rattle.steps.specs.declared.Fixed.{Fixed}
 use Rattle.session.specs.Calls.{Outcome, prepared, freshSession}
 use Rattle.history.specs.Gateway.{Fresh, Promise, outcomeOf}

@@ -41,28 +41,15 @@ use Rattle.rules.specs.declared.Command.{Command}
 use Rattle.rules.specs.declared.ReplyLine.{ReplyLine}
 use Rattle.rules.specs.declared.PassiveReply.{PassiveReply}
 use Rattle.replies.proofs.Flowing.{flowing as by-first-four}
-use Rattle.effects.specs.declared.Place.{Place}
+use Rattle.places.specs.declared.Place.{Place}
 use Rattle.gives.specs.declared.Gives.{Gives}
 use Rattle.kinds.specs.declared.Owes.{Owes}
-use Rattle.effects.specs.declared.ClientEffect.{ClientEffect}
-use Rattle.effects.specs.declared.ServerEffect.{ServerEffect}
+use Rattle.upstream.specs.declared.ClientEffect.{ClientEffect}
+use Rattle.downstream.specs.declared.ServerEffect.{ServerEffect}
 use Rattle.gives.specs.Text.{givesText}
-use Rattle.effects.specs.Effects.{
-  at,
-  commandEffect,
-  judgedEffect,
-  joinEffect,
-  placeEffect,
-  clientEffectOf,
-  passiveEffect,
-  kindEffect,
-  headEffect,
-  lineGives,
-  wholeLine,
-  flowingLine,
-  replyOctet,
-  replyEffect,
-}
+use Rattle.places.specs.Places.{at}
+use Rattle.upstream.specs.Upstream.{commandEffect, judgedEffect, joinEffect, placeEffect, clientEffectOf}
+use Rattle.downstream.specs.Downstream.{passiveEffect, kindEffect, headEffect, lineGives, wholeLine, flowingLine, replyOctet, replyEffect}
 use Rattle.steps.specs.declared.Fixed.{Fixed}
 use Rattle.steps.specs.Steps.{stored, flowsOrEnded, passesFromNow}
 use Rattle.history.specs.ByOctets.{lineEndGives, clientGives}

@@ -26,7 +26,7 @@ use Rattle.kinds.specs.Kinds.{
   answersAtHead,
   shifted,
 }
-use Rattle.effects.specs.Effects.{kindRemoved, headRemoved, lineRemoves}
+use Rattle.downstream.specs.Downstream.{kindRemoved, headRemoved, lineRemoves}
 use Rattle.queue.proofs.Listed.{Listed, pushed-front, listed-push, shifted-front, listed-leave}
 use Rattle.steps.specs.Steps.{owedThen}
 

@@ -24,16 +24,16 @@ use Rattle.rules.specs.ToClient.{
   afterOctet,
 }
 use Rattle.rules.specs.declared.Switches.{Switches}
-use Rattle.effects.specs.declared.Direction.{Direction}
+use Rattle.places.specs.declared.Direction.{Direction}
 use Rattle.kinds.specs.declared.Owes.{Owes}
-use Rattle.effects.specs.declared.ClientEffect.{ClientEffect}
-use Rattle.effects.specs.declared.ServerEffect.{ServerEffect}
+use Rattle.upstream.specs.declared.ClientEffect.{ClientEffect}
+use Rattle.downstream.specs.declared.ServerEffect.{ServerEffect}
 use Rattle.kinds.specs.Kinds.{headOf}
-use Rattle.effects.specs.Effects.{clientEffect, serverEffect}
+use Rattle.upstream.specs.Upstream.{clientEffect}
+use Rattle.downstream.specs.Downstream.{serverEffect}
 use Rattle.steps.specs.declared.Fixed.{Fixed}
 use Rattle.steps.specs.Steps.{State, Step, owedThen, settledState, clientState, clientEffectIn, clientStep, serverState, serverEffectIn, serverStep, octetStep}
-use Rattle.records.specs.Sound.{isPassing}
-use Rattle.steps.specs.Takes.{Took, stopOf, takes}
+use Rattle.steps.specs.Takes.{isPassing, Took, stopOf, takes}
 use Rattle.session.specs.Calls.{endStep}
 use Rattle.steps.proofs.Stops.{stop-none, unless-stopped}
 use Rattle.steps.proofs.Turns.{place-owed}

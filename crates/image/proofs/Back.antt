@@ -11,7 +11,7 @@ use borrow.Author.Tests.{le-leb}
 use Rattle.rules.specs.Octets.{choose, every}
 use Rattle.rules.specs.Lines.{judged}
 use Rattle.rules.specs.Answers.{mostOwed}
-use Rattle.effects.specs.declared.Place.{Place}
+use Rattle.places.specs.declared.Place.{Place}
 use Rattle.records.specs.declared.Session.{Session}
 use Rattle.session.specs.Calls.{deadSession}
 use Rattle.records.proofs.Refusals.{sound-countable}

@@ -9,7 +9,7 @@ use lib.Dec.{leb}
 use lib.Seq.{length-take-le}
 use borrow.Author.Tests.{le-leb, lt-leb, not-true, not-false}
 use Rattle.rules.specs.Octets.{choose}
-use Rattle.effects.specs.declared.Place.{Place}
+use Rattle.places.specs.declared.Place.{Place}
 use Rattle.output.specs.Buffer.{placed}
 use Rattle.output.proofs.Front.{filled}
 use Rattle.records.specs.declared.Control.{Control}

@@ -6,8 +6,8 @@ use Prim.Native.Nat.{ℕ, zero, suc, _+_, _-_, _*_, _/_, _%_, _^_, _<_}
 use lib.Dec.{leb, eqb}
 use lib.ListN.{length, getD, take, drop, replicate}
 use Rattle.rules.specs.Octets.{choose, every}
-use Rattle.effects.specs.declared.Place.{Place}
-use Rattle.effects.specs.Effects.{at}
+use Rattle.places.specs.declared.Place.{Place}
+use Rattle.places.specs.Places.{at}
 use Rattle.records.specs.declared.Control.{Control}
 use Rattle.records.specs.declared.Counts.{Counts}
 use Rattle.records.specs.declared.Session.{Session}

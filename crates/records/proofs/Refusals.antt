@@ -11,12 +11,11 @@ use Rattle.rules.specs.Lines.{judged}
 use Rattle.rules.specs.Answers.{mostOwed, soundHeld, soundRecord, refusal}
 use Rattle.rules.specs.declared.Answer.{Answer}
 use Rattle.octets.proofs.Ranges.{and-both}
-use Rattle.effects.specs.declared.Place.{Place}
-use Rattle.effects.specs.declared.Direction.{Direction}
+use Rattle.places.specs.declared.Place.{Place}
+use Rattle.places.specs.declared.Direction.{Direction}
 use Rattle.records.specs.declared.Session.{Session}
 use Rattle.records.specs.declared.Refusal.{Refusal}
-use Rattle.records.specs.Sound.{isHolding, soundDirection, sound, refusalOf}
-use Rattle.records.specs.Sound.{refusalBy}
+use Rattle.records.specs.Sound.{isHolding, soundDirection, sound, refusalOf, refusalBy}
 
 -- "Order: 3, 4, 6": each case knows that those before it are not so
 module _ (P : Option Answer → Type 0) where

@@ -7,30 +7,27 @@ use Rattle.rules.specs.Octets.{every}
 use Rattle.rules.specs.Answers.{Side, client, server, sideOf, soundHeld, soundRecord, refusal}
 use Rattle.rules.specs.declared.Answer.{Answer}
 use Rattle.kinds.specs.Kinds.{isListed}
-use Rattle.effects.specs.declared.Place.{Place}
-use Rattle.effects.specs.declared.Direction.{Direction}
+use Rattle.places.specs.declared.Place.{Place}
+use Rattle.places.specs.declared.Direction.{Direction}
 use Rattle.records.specs.declared.Control.{Control}
 use Rattle.records.specs.declared.Session.{Session}
 use Rattle.records.specs.declared.Refusal.{Refusal}
 
+-- its line's octets are held
 abbrev pub isHolding : Place → Bool
 isHolding Place.Holding = true
 isHolding Place.Flowing = false
 isHolding Place.Passing = false
 isHolding Place.Ended = false
 
-abbrev pub isPassing : Place → Bool
-isPassing Place.Holding = false
-isPassing Place.Flowing = false
-isPassing Place.Passing = true
-isPassing Place.Ended = false
-
+-- "that direction has ended"
 abbrev pub isEnded : Place → Bool
 isEnded Place.Holding = false
 isEnded Place.Flowing = false
 isEnded Place.Passing = false
 isEnded Place.Ended = true
 
+-- "over 511 octets held, or octets held where the line already flows, the direction has ended or its octets pass at once"
 unfoldable pub soundDirection : Direction → Bool
 soundDirection d = soundHeld (isHolding (d .place)) (d .held)
 
@@ -41,11 +38,12 @@ sound s =
     soundRecord (s .live) (c .owed) (every isListed (take (c .owed) (s .kinds))) (soundDirection (c .client))
     (soundDirection (c .server))
 
+-- the direction of a side
 abbrev pub directionOf : Side → Control → Direction
 directionOf client c = c .client
 directionOf server c = c .server
 
--- what refuses a call on a direction
+-- what refuses a call on a direction: "Order: 3, 4, 6"
 unfoldable pub refusalOf : Session → ℕ → Option Answer
 refusalOf s d = refusal d (sound s) (isEnded (directionOf (sideOf d) (s .control) .place))
 
@@ -56,5 +54,5 @@ refusalBy (some a) = Refusal.By a
 
 -- this page's definitions, for a proof that computes with them
 unfoldable pub sound-opened : Unit {0}
-unfolding soundDirection sound refusalOf
+unfolding soundDirection sound refusalOf refusalBy
 sound-opened = tt

@@ -6,8 +6,8 @@ ghost use Rattle.rules.specs.Octets.{every};
 ghost use Rattle.rules.specs.Answers.{sideOf};
 ghost use Rattle.kinds.specs.Kinds.{isListed};
 ghost use Rattle.records.specs.Sound.{soundDirection, sound as soundIn, isEnded, directionOf, refusalOf, refusalBy};
-use effects::Direction;
-use effects::Place;
+use places::Direction;
+use places::Place;
 use rules::Answer;
 use rules::Switches;
 

@@ -10,8 +10,8 @@ use Rattle.rules.specs.Setup.{eprtSupported, setupSwitches, badFlags, setupAnsw
 use Rattle.rules.specs.Lines.{judged}
 use Rattle.rules.specs.declared.Answer.{Answer}
 use Rattle.rules.specs.declared.Switches.{Switches}
-use Rattle.effects.specs.declared.Place.{Place}
-use Rattle.effects.specs.declared.Direction.{Direction}
+use Rattle.places.specs.declared.Place.{Place}
+use Rattle.places.specs.declared.Direction.{Direction}
 use Rattle.records.specs.declared.Control.{Control}
 use Rattle.records.specs.declared.Counts.{Counts}
 use Rattle.records.specs.declared.Session.{Session}
@@ -20,12 +20,13 @@ use Rattle.steps.specs.declared.Fixed.{Fixed}
 use Rattle.session.specs.declared.Prepared.{Prepared}
 use Rattle.session.specs.declared.Called.{Called}
 use Rattle.session.specs.declared.DirectionOffset.{DirectionOffset}
-use Rattle.effects.specs.Effects.{at}
+use Rattle.places.specs.Places.{at}
 use Rattle.steps.specs.Steps.{State, Step}
 use Rattle.steps.specs.Takes.{Took, takes, takes-opened}
 
 -- ---- setup
 
+-- arrays and counts of zeros
 abbrev pub noOctets : List ℕ
 noOctets = replicate (judged - 1) 0
 
@@ -68,12 +69,14 @@ unfoldable pub deadSession : Session
 deadSession =
     startSession false (replicate 16 0) (replicate 4 0) false (startControl (record { epsv = false; eprt = false }) 0)
 
+-- "Setup gives ..": the answer, and the record that it leaves
 unfoldable pub prepared : List ℕ → List ℕ → ℕ → Prepared
 prepared address mapped flags =
     record { answer = setupAnswer flags; session = choose (badFlags flags) deadSession (freshSession address mapped flags) }
 
 -- ---- what an arrival works on
 
+-- what octets change in a record, and what they don't
 abbrev pub stateOf : Session → State
 stateOf s = record { control = s .control; command = s .command; reply = s .reply; kinds = s .kinds }
 
@@ -82,15 +85,18 @@ fixedOf s = record { client = s .client; mapped = s .mapped; supported = s .supp
 
 -- ---- the record after a call
 
+-- "Each direction counts octets taken and written in 32 bits that wrap"
 abbrev pub counted : Counts → ℕ → ℕ → Counts
 counted c taken written = record { taken = wrapped (c .taken + taken); written = wrapped (c .written + written) }
 
+-- octets taken count for the direction that they came from
 abbrev pub takenFor : Side → Side → ℕ → ℕ
 takenFor client client n = n
 takenFor client server n = 0
 takenFor server client n = 0
 takenFor server server n = n
 
+-- the state then, and the counts; the rest of the record stays
 unfoldable pub sessionAfter : Session → Side → ℕ → ℕ → ℕ → State → Session
 sessionAfter s d taken toServer toClient t =
     record {
@@ -113,14 +119,17 @@ pub record Outcome : Type 0 where
   pub toServer : List ℕ
   pub toClient : List ℕ
 
+-- "With 3, 4 and 6 nothing is written and the record comes back equal"
 unfoldable pub refused : Answer → Session → Outcome
 refused a s =
     record { called = record { answer = a; taken = 0; written = record { server = 0; client = 0 }; session = s }; toServer = []; toClient = [] }
 
+-- a call, unless something refuses it
 unfoldable pub unlessRefused : Option Answer → Session → Outcome → Outcome
 unlessRefused none s r = r
 unlessRefused (some a) s r = refused a s
 
+-- what a call returns for what it took
 unfoldable pub outcome : Session → Side → Took → Outcome
 outcome s d t =
     record {
@@ -134,6 +143,7 @@ outcome s d t =
       toClient = t .toClient;
     }
 
+-- "An arrival is a direction .. and octets; two lent buffers receive octets"
 unfoldable pub arrived : Session → ℕ → List ℕ → ℕ → ℕ → Outcome
 arrived s d octets serverRoom clientRoom =
     unlessRefused (refusalOf s d) s
@@ -190,6 +200,7 @@ endOutcome s d t true =
     (record { answer = Answer.Done; taken = 0; toServer = t .toServer; toClient = t .toClient; state = t .state })
 endOutcome s d t false = refused Answer.NoRoom s
 
+-- an end: refused, or its held octets pass if they have room
 unfoldable pub ended : Session → ℕ → ℕ → ℕ → Outcome
 ended s d serverRoom clientRoom =
     let t = endStep (sideOf d) (stateOf s) in
@@ -198,6 +209,7 @@ ended s d serverRoom clientRoom =
 
 -- ---- offsets
 
+-- "Its offset is written minus taken, modulo 2^32"
 unfoldable pub offset : Session → ℕ → DirectionOffset
 offset s zero = DirectionOffset.Is (offsetOf (s .up .written) (s .up .taken))
 offset s (suc zero) = DirectionOffset.Is (offsetOf (s .down .written) (s .down .taken))

@@ -19,9 +19,8 @@ use Rattle.records.specs.declared.Control.{Control}
 use Rattle.steps.specs.declared.Fixed.{Fixed}
 use Rattle.steps.specs.declared.Written.{Written}
 use Rattle.steps.specs.Steps.{State, Step, octetStep}
-use Rattle.steps.specs.Takes.{Took, tookNothing, andThen, unlessStopped, stopOf, takes, holdable, tookFrom}
-use Rattle.records.specs.Sound.{isPassing}
-use Rattle.steps.specs.Core.{Core, Bounded, sideIf, coreFrom, stepFits, octetFits, octetCore, coreTook}
+use Rattle.steps.specs.Takes.{Took, tookNothing, andThen, unlessStopped, stopOf, takes, holdable, tookFrom, Core, sideIf, coreFrom, coreTook, isPassing}
+use Rattle.steps.specs.Core.{Bounded, stepFits, octetFits, octetCore}
 use Rattle.output.proofs.Placing.{placed-fits, length-placed, take-placed, drop-placed, nothing-placed}
 use Rattle.steps.proofs.Stops.{fits-room}
 use Rattle.steps.proofs.Octets.{core-same, core-next}

@@ -3,12 +3,10 @@ ghost use mathlib.Core.Path.{_≡_};
 ghost use Prim.Native.Nat.{_≤_};
 ghost use lib.ListN.{length};
 ghost use Rattle.rules.specs.Answers.{isQueueFull};
-ghost use Rattle.records.specs.Sound.{isPassing as passes};
-ghost use Rattle.steps.specs.Takes.{Took, takes, tookFrom, holdable as areHoldable};
-ghost use Rattle.steps.specs.Core.{stateFrom, coreFrom, sideIf, coreTook};
-use effects::Direction;
-use effects::Place;
+ghost use Rattle.steps.specs.Takes.{isPassing as passes, takes, tookFrom, holdable as areHoldable, stateFrom, coreFrom, sideIf, coreTook};
 use octet::any_octet;
+use places::Direction;
+use places::Place;
 use records::Control;
 use rules::Answer;
 
@@ -118,6 +116,7 @@ pub fn take(
     )
 }
 
+// The octets one by one, where the counts can be held.
 fn take_each(
     fixed: Fixed,
     from_client: bool,

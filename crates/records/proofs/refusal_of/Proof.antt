@@ -1,7 +1,7 @@
 -- `records::refusal_of` meets its contract, refusal by refusal.
 use mathlib.Core.Path.{sym, ap, _∙_}
 use borrow.Author.Needs.{needs}
-use Rattle.effects.specs.declared.Direction.{Direction}
+use Rattle.places.specs.declared.Direction.{Direction}
 use Rattle.records.specs.Sound.{isEnded, refusalOf}
 use Rattle.records.proofs.Refusals.{unknown, unsound, over, taken}
 use Rattle.records.proofs.refusal_of.Statement.{statement}

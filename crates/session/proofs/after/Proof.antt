@@ -1,7 +1,7 @@
 -- `session::after` meets its contract. The octets taken count for the side that they came from.
 use mathlib.Core.Logic.{⊎-elim}
 use borrow.Author.Needs.{needs}
-use Rattle.steps.specs.Core.{sideIf, stateFrom}
+use Rattle.steps.specs.Takes.{sideIf, stateFrom}
 use Rattle.session.proofs.Outcomes.{advanced}
 use Rattle.session.proofs.after.Statement.{statement}
 use Rattle.session.proofs.after.Tie as tie

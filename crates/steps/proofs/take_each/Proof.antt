@@ -1,11 +1,11 @@
--- The invariant, `Going`: what is taken in all is what was taken so far and what is taken from the present state.
+-- `steps::take_each` meets its contract. The invariant, `Going`: what is taken in all is what was taken so far and what is taken from the present state.
 use borrow.Author.Needs.{needs}
 use borrow.Author.Tests.{not-true, not-false}
 use mathlib.Core.Path.{sym, _∙_}
 use Prim.Native.Nat.{_≤_, _-_}
 use native.Mathlib.Omega.{arith}
 use lib.ListN.{length}
-use Rattle.steps.specs.Core.{stateFrom, coreFrom, sideIf}
+use Rattle.steps.specs.Takes.{stateFrom, coreFrom, sideIf}
 use Rattle.steps.proofs.Takes.{Going, going-start, going-on, stopped-done, stopped-full, stopped-unfit}
 use Rattle.steps.proofs.take_each.Statement.{statement}
 use Rattle.steps.proofs.take_each.Tie as tie

@@ -1,0 +1,94 @@
+-- What a server octet does on its own side: what it gives, where the direction stands then, and what is removed.
+use mathlib.Core.Bool.{Bool, true, false}
+use mathlib.Core.List.{List}
+use Prim.Native.Nat.{ℕ, _+_}
+use lib.Dec.{eqb, ltb}
+use lib.ListN.{take}
+use Rattle.rules.specs.Octets.{lf, choose}
+use Rattle.rules.specs.Lines.{judged, content}
+use Rattle.rules.specs.Replies.{replyLine, leavesUnfinished, passiveReply}
+use Rattle.rules.specs.declared.Kind.{Kind}
+use Rattle.rules.specs.declared.ReplyLine.{ReplyLine}
+use Rattle.rules.specs.declared.PassiveReply.{PassiveReply}
+use Rattle.places.specs.declared.Place.{Place}
+use Rattle.places.specs.declared.Direction.{Direction}
+use Rattle.gives.specs.declared.Gives.{Gives}
+use Rattle.kinds.specs.declared.Owes.{Owes}
+use Rattle.downstream.specs.declared.ServerEffect.{ServerEffect}
+use Rattle.places.specs.Places.{at}
+
+abbrev pub serverEffectOf : Gives → Direction → ℕ → Bool → ServerEffect
+serverEffectOf g d n u = record { gives = g; direction = d; removes = n; unfinished = u }
+
+-- "removes the first owed kind, unless none is owed or it is the gateway's own answer"
+unfoldable pub kindRemoved : Kind → ℕ
+kindRemoved Kind.Plain = 1
+kindRemoved Kind.TranslatedEpsv = 1
+kindRemoved (Kind.Own a) = 0
+kindRemoved Kind.Auth = 1
+
+unfoldable pub headRemoved : Owes → ℕ
+headRemoved Owes.Nothing = 0
+headRemoved (Owes.One k) = kindRemoved k
+
+-- only a line that ends a final reply removes one
+unfoldable pub lineRemoves : ReplyLine → Owes → ℕ
+lineRemoves ReplyLine.GoesOn o = 0
+lineRemoves ReplyLine.Preliminary o = 0
+lineRemoves ReplyLine.Final o = headRemoved o
+
+unfoldable pub passiveEffect : PassiveReply → Gives
+passiveEffect (PassiveReply.Port p) = Gives.ExtendedPassive p
+passiveEffect PassiveReply.Unreadable = Gives.HeldAndOctet
+
+-- "The 227 of a translated EPSV" is read, any other line passes
+unfoldable pub kindEffect : Kind → List ℕ → Gives
+kindEffect Kind.Plain c = Gives.HeldAndOctet
+kindEffect Kind.TranslatedEpsv c = passiveEffect (passiveReply c)
+kindEffect (Kind.Own a) c = Gives.HeldAndOctet
+kindEffect Kind.Auth c = Gives.HeldAndOctet
+
+unfoldable pub headEffect : Owes → List ℕ → Gives
+headEffect Owes.Nothing c = Gives.HeldAndOctet
+headEffect (Owes.One k) c = kindEffect k c
+
+-- a line judged whole of content c gives itself, unless it ends a final reply of no earlier line
+unfoldable pub lineGives : ReplyLine → Bool → Owes → List ℕ → Gives
+lineGives ReplyLine.GoesOn u o c = Gives.HeldAndOctet
+lineGives ReplyLine.Preliminary u o c = Gives.HeldAndOctet
+lineGives ReplyLine.Final u o c = choose u Gives.HeldAndOctet (headEffect o c)
+
+-- the LF of a line judged whole
+unfoldable pub wholeLine : Bool → Owes → List ℕ → ServerEffect
+wholeLine u o c =
+    let r = replyLine c in serverEffectOf (lineGives r u o c) (at Place.Holding 0) (lineRemoves r o) (leavesUnfinished r)
+
+-- the LF of a flowing line, whose first four octets are still in the array
+unfoldable pub flowingLine : Owes → List ℕ → ServerEffect
+flowingLine o line =
+    let r = replyLine (take 4 line) in
+    serverEffectOf Gives.Octet (at Place.Holding 0) (lineRemoves r o) (leavesUnfinished r)
+
+-- another octet of a held line: it is held, or lets the line go
+unfoldable pub replyOctet : Bool → ℕ → ServerEffect
+replyOctet u held =
+    choose (ltb (held + 1) judged) (serverEffectOf Gives.Held (at Place.Holding (held + 1)) 0 u)
+    (serverEffectOf Gives.HeldAndOctet (at Place.Flowing 0) 0 u)
+
+-- by the place of the direction, and whether the octet is LF
+unfoldable pub replyEffect : Bool → Owes → Place → ℕ → List ℕ → Bool → ServerEffect
+replyEffect u o Place.Holding held line true = wholeLine u o (content (take held line))
+replyEffect u o Place.Holding held line false = replyOctet u held
+replyEffect u o Place.Flowing held line true = flowingLine o line
+replyEffect u o Place.Flowing held line false = serverEffectOf Gives.Octet (at Place.Flowing 0) 0 u
+replyEffect u o Place.Passing held line b = serverEffectOf Gives.Octet (at Place.Passing 0) 0 u
+replyEffect u o Place.Ended held line b = serverEffectOf Gives.Nothing (at Place.Ended 0) 0 u
+
+-- line is the array that holds the server's octets, o the first kind owed
+unfoldable pub serverEffect : Bool → Owes → Direction → List ℕ → ℕ → ServerEffect
+serverEffect u o d line x = replyEffect u o (d .place) (d .held) line (eqb x lf)
+
+-- this page's definitions, for a proof that computes with them
+unfoldable pub downstream-opened : Unit {0}
+unfolding kindRemoved headRemoved lineRemoves passiveEffect kindEffect headEffect lineGives wholeLine flowingLine replyOctet replyEffect serverEffect
+downstream-opened = tt

@@ -1,0 +1,207 @@
+// What one octet of the server does on the server's side: what it gives, where its direction stands then, and how many owed kinds it removes.
+ghost use mathlib.Core.Path.{_≡_};
+ghost use lib.Dec.{eqb};
+ghost use Rattle.rules.specs.Octets.{lf, choose};
+ghost use Rattle.rules.specs.Replies.{passiveReply, leavesUnfinished};
+ghost use Rattle.places.specs.Places.{at as directionAt};
+ghost use Rattle.downstream.specs.Downstream.{kindRemoved, headRemoved, lineRemoves, passiveEffect, kindEffect, headEffect, lineGives, wholeLine, flowingLine, replyOctet, replyEffect, serverEffect, serverEffectOf};
+use gives::Gives;
+use kinds::Owes;
+use places::Direction;
+use places::LF;
+use places::Place;
+use places::first_octets;
+use places::is_held;
+use rules::Kind;
+use rules::PassiveReply;
+use rules::ReplyLine;
+
+// What a server octet does on the server's side; also how many owed kinds it removes.
+pub struct ServerEffect {
+    pub gives: Gives,
+    pub direction: Direction,
+    pub removes: usize,
+    pub unfinished: bool,
+}
+
+// How many owed kinds a final reply removes, by the first one owed.
+fn kind_removed(kind: Kind) -> usize
+    ensures { λ r. ⌜ r ≡ kindRemoved kind ⌝ }
+{
+    match kind {
+        Kind::Plain => 1,
+        Kind::TranslatedEpsv => 1,
+        Kind::Own(_) => 0,
+        Kind::Auth => 1,
+    }
+}
+
+fn head_removed(first: Owes) -> usize
+    ensures { λ r. ⌜ r ≡ headRemoved first ⌝ }
+{
+    match first {
+        Owes::Nothing => 0,
+        Owes::One(kind) => kind_removed(kind),
+    }
+}
+
+fn line_removes(reply: ReplyLine, first: Owes) -> usize
+    ensures { λ r. ⌜ r ≡ lineRemoves reply first ⌝ }
+{
+    match reply {
+        ReplyLine::GoesOn => 0,
+        ReplyLine::Preliminary => 0,
+        ReplyLine::Final => head_removed(first),
+    }
+}
+
+// What the only line of a final reply gives, by the first kind owed.
+fn kind_gives(kind: Kind, content: &[u8]) -> Gives
+    ensures { λ r. ⌜ r ≡ kindEffect kind (now (content .entry)) ⌝ }
+{
+    match kind {
+        Kind::Plain => Gives::HeldAndOctet,
+        Kind::TranslatedEpsv => passive_gives(content),
+        Kind::Own(_) => Gives::HeldAndOctet,
+        Kind::Auth => Gives::HeldAndOctet,
+    }
+}
+
+// The 227 that answers a translated EPSV.
+fn passive_gives(content: &[u8]) -> Gives
+    ensures { λ r. ⌜ r ≡ passiveEffect (passiveReply (now (content .entry))) ⌝ }
+{
+    match replies::passive_reply(content) {
+        PassiveReply::Port(port) => Gives::ExtendedPassive(port),
+        PassiveReply::Unreadable => Gives::HeldAndOctet,
+    }
+}
+
+fn head_gives(first: Owes, content: &[u8]) -> Gives
+    ensures { λ r. ⌜ r ≡ headEffect first (now (content .entry)) ⌝ }
+{
+    match first {
+        Owes::Nothing => Gives::HeldAndOctet,
+        Owes::One(kind) => kind_gives(kind, content),
+    }
+}
+
+// What a line judged whole gives: itself, unless it is the only line of a final reply.
+fn line_gives(reply: ReplyLine, unfinished: bool, first: Owes, content: &[u8]) -> Gives
+    ensures { λ r. ⌜ r ≡ lineGives reply unfinished first (now (content .entry)) ⌝ }
+{
+    match reply {
+        ReplyLine::GoesOn => Gives::HeldAndOctet,
+        ReplyLine::Preliminary => Gives::HeldAndOctet,
+        ReplyLine::Final => {
+            if unfinished {
+                Gives::HeldAndOctet
+            } else {
+                head_gives(first, content)
+            }
+        }
+    }
+}
+
+fn leaves_unfinished(reply: ReplyLine) -> bool
+    ensures { λ r. ⌜ r ≡ leavesUnfinished reply ⌝ }
+{
+    match reply {
+        ReplyLine::GoesOn => true,
+        ReplyLine::Preliminary => false,
+        ReplyLine::Final => false,
+    }
+}
+
+// The LF of a server line that is judged whole.
+fn whole_line(unfinished: bool, first: Owes, content: &[u8]) -> ServerEffect
+    ensures { λ r. ⌜ r ≡ wholeLine unfinished first (now (content .entry)) ⌝ }
+{
+    let reply = replies::reply_line(content);
+    ServerEffect {
+        gives: line_gives(reply, unfinished, first, content),
+        direction: Direction {
+            place: Place::Holding,
+            held: 0,
+        },
+        removes: line_removes(reply, first),
+        unfinished: leaves_unfinished(reply),
+    }
+}
+
+// The LF of a server line that flows, whose first four octets are still in the array.
+fn flowing_line(first: Owes, line: &[u8]) -> ServerEffect
+    ensures { λ r. ⌜ r ≡ flowingLine first (now (line .entry)) ⌝ }
+{
+    let reply = replies::reply_line(first_octets(line, 4));
+    ServerEffect {
+        gives: Gives::Octet,
+        direction: Direction {
+            place: Place::Holding,
+            held: 0,
+        },
+        removes: line_removes(reply, first),
+        unfinished: leaves_unfinished(reply),
+    }
+}
+
+// A server effect that removes nothing and leaves the reply as it was.
+fn unremoved(gives: Gives, place: Place, held: usize, unfinished: bool) -> ServerEffect
+    ensures { λ r. ⌜ r ≡ serverEffectOf gives (directionAt place held) 0 unfinished ⌝ }
+{
+    ServerEffect {
+        gives,
+        direction: Direction { place, held },
+        removes: 0,
+        unfinished,
+    }
+}
+
+// Another octet of a held server line.
+fn reply_octet(unfinished: bool, held: usize) -> ServerEffect
+    ensures { λ r. ⌜ r ≡ replyOctet unfinished held ⌝ }
+{
+    if is_held(held) {
+        return unremoved(Gives::Held, Place::Holding, held + 1, unfinished);
+    }
+    unremoved(Gives::HeldAndOctet, Place::Flowing, 0, unfinished)
+}
+
+// An octet of a server line whose octets are held in `line`.
+fn hold_reply(unfinished: bool, first: Owes, held: usize, line: &[u8], x: u8) -> ServerEffect
+    ensures { λ r. ⌜ r ≡ replyEffect unfinished first Place.Holding held (now (line .entry)) (eqb x lf) ⌝ }
+{
+    if x == LF {
+        return whole_line(unfinished, first, lines::content(first_octets(line, held)));
+    }
+    reply_octet(unfinished, held)
+}
+
+// An octet of a server line that flows.
+fn flow_reply(unfinished: bool, first: Owes, line: &[u8], x: u8) -> ServerEffect
+    ensures { λ r. ⌜ r ≡ choose (eqb x lf) (flowingLine first (now (line .entry))) (serverEffectOf Gives.Octet (directionAt Place.Flowing 0) 0 unfinished) ⌝ }
+{
+    if x == LF {
+        return flowing_line(first, line);
+    }
+    unremoved(Gives::Octet, Place::Flowing, 0, unfinished)
+}
+
+// What a server octet x does, with the first kind owed; `line` is the array that holds the server's octets.
+pub fn server_effect(
+    unfinished: bool,
+    first: Owes,
+    direction: Direction,
+    line: &[u8],
+    x: u8,
+) -> ServerEffect
+    ensures { λ r. ⌜ r ≡ serverEffect unfinished first direction (now (line .entry)) x ⌝ }
+{
+    let place = direction.place;
+    match place {
+        Place::Holding => hold_reply(unfinished, first, direction.held, line, x),
+        Place::Flowing => flow_reply(unfinished, first, line, x),
+        Place::Passing => unremoved(Gives::Octet, Place::Passing, 0, unfinished),
+        Place::Ended => unremoved(Gives::Nothing, Place::Ended, 0, unfinished),
+    }
+}

@@ -1,2 +1,0 @@
--- What one octet does on its own side.
-pub mod Effects

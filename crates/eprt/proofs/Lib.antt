@@ -1,0 +1,2 @@
+mod Equal
+mod Eprt

@@ -1,0 +1,62 @@
+-- By the cases of the place.
+use mathlib.Core.Path.{_∙_}
+use borrow.Author.Needs.{needs}
+use Rattle.upstream.specs.Upstream.{placeEffect}
+use Rattle.upstream.proofs.Places.{client-place, client-flowing}
+use Rattle.upstream.proofs.client_effect.Statement.{statement}
+use Rattle.upstream.proofs.client_effect.Tie as tie
+
+enum-told : tie.Need-enum-told
+enum-told c = search needs
+
+hold-effect-requires : tie.Need-hold-effect-requires
+hold-effect-requires c κs = search needs
+
+enum-told-2 : tie.Need-enum-told-2
+enum-told-2 c = search needs
+
+flow-effect-requires : tie.Need-flow-effect-requires
+flow-effect-requires c κs = search needs
+
+enum-told-3 : tie.Need-enum-told-3
+enum-told-3 c = search needs
+
+unowed-requires : tie.Need-unowed-requires
+unowed-requires c κs = search needs
+
+enum-told-4 : tie.Need-enum-told-4
+enum-told-4 c = search needs
+
+unowed-requires-2 : tie.Need-unowed-requires-2
+unowed-requires-2 c κs = search needs
+
+returns : tie.Need-returns
+returns c = c .hold-effect .ensures ∙ client-place _ _ _ _ _ _ (c .before .enum-told .given .1)
+
+returns-2 : tie.Need-returns-2
+returns-2 c = c .flow-effect .ensures ∙ client-flowing _ _ _ _ _ _ ∙ client-place _ _ _ _ _ _ (c .before .enum-told2 .given .1)
+
+returns-3 : tie.Need-returns-3
+unfolding placeEffect
+returns-3 c = c .unowed .ensures ∙ client-place _ _ _ _ _ _ (c .before .enum-told3 .given .1)
+
+returns-4 : tie.Need-returns-4
+unfolding placeEffect
+returns-4 c = c .unowed2 .ensures ∙ client-place _ _ _ _ _ _ (c .before .enum-told4 .given .1)
+
+pub client-effect-spec : {M : Type 1} → statement M
+client-effect-spec =
+    tie.close
+    (tie.spec
+    enum-told
+    hold-effect-requires
+    enum-told-2
+    flow-effect-requires
+    enum-told-3
+    unowed-requires
+    enum-told-4
+    unowed-requires-2
+    returns
+    returns-2
+    returns-3
+    returns-4)
