@@ -1,2 +1,3 @@
 -- Demand 3 for a host in C.
 pub mod Hosts
+mod Promises

@@ -4,7 +4,7 @@ use mathlib.Core.Bool.{true}
 use mathlib.Core.List.{List}
 use Prim.Native.Nat.{ℕ, _≤_}
 use lib.Dec.{leb}
-use lib.ListN.{length}
+use lib.ListN.{length, getD}
 use Rattle.rules.specs.Octets.{every}
 use Rattle.rules.specs.Answers.{answerNumber}
 use Rattle.rules.specs.Setup.{Setup}
@@ -40,6 +40,19 @@ pub record Promise (image : List ℕ) (c : Call) (t : Return (List ℕ)) : Type 
   pub memory : t .session ≡ imageAfter image (outcomeAt image c .called)
   pub serverBuffer : t .serverBuffer ≡ serverAfter (outcomeAt image c) (lentServer c)
   pub clientBuffer : t .clientBuffer ≡ clientAfter (outcomeAt image c) (lentClient c)
+
+-- what a call told a host: the answer whose number it returned, the three counts, the memory and the two buffers
+abbrev pub toldBy : Answer → List ℕ → List ℕ → List ℕ → List ℕ → Return (List ℕ)
+toldBy a counts image serverBuffer clientBuffer =
+    record {
+      answer = a;
+      taken = getD counts 0 0;
+      toServer = getD counts 1 0;
+      toClient = getD counts 2 0;
+      session = image;
+      serverBuffer = serverBuffer;
+      clientBuffer = clientBuffer;
+    }
 
 -- and the offset that `fashlemor_offset` sets
 abbrev pub host : Gateway

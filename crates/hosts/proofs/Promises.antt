@@ -1,0 +1,92 @@
+-- From the contracts of the functions that C calls to what demand 3 assumes of a gateway: a fresh memory, the promise of a call, and the offset.
+use mathlib.Core.Path.{_≡_, refl, sym, ap, _∙_}
+use mathlib.Core.Bool.{Bool, true, false, _&&_}
+use mathlib.Core.List.{List, [], _∷_}
+use Prim.Native.Nat.{ℕ, zero, suc, _≤_, _<_}
+use native.Mathlib.Omega.{arith}
+use lib.Dec.{leb, eqb}
+use lib.ListN.{length, getD}
+use borrow.Author.Tests.{le-leb, leb-true, eqb-true}
+use Rattle.rules.specs.Octets.{choose, every}
+use Rattle.rules.specs.Answers.{answerNumber, sideOf}
+use Rattle.rules.specs.Setup.{Setup}
+use Rattle.rules.specs.Demand3.{Call, lentServer, lentClient}
+use Rattle.rules.specs.declared.Answer.{Answer}
+use Rattle.octets.proofs.Ranges.{and-both}
+use Rattle.output.specs.Buffer.{placed}
+use Rattle.records.specs.declared.Session.{Session}
+use Rattle.session.specs.declared.Prepared.{Prepared}
+use Rattle.session.specs.Calls.{offset}
+use Rattle.history.specs.Gateway.{numberOf, offsetNumber}
+use Rattle.image.specs.Image.{imageSize, imageOf}
+use Rattle.relay.specs.Host.{preparedFrom, setupNumber, imageAfter, serverAfter, clientAfter, countsAfter, offsetAfter}
+use Rattle.hosts.specs.Memory.{Fresh, outcomeAt, Promise, toldBy}
+
+-- ---- a setup that is told 0 had room for the record, and addresses of their lengths
+
+five : {A : Type 0} → _≡_ {A = ℕ} 5 0 → A
+five e = absurd (omega arith)
+
+had-room : (memory : List ℕ) (p : Prepared) (b : Bool) → leb imageSize (length memory) ≡ b → setupNumber memory p ≡ 0
+    → (imageSize ≤ length memory) × (answerNumber (p .answer) ≡ 0)
+unfolding setupNumber choose answerNumber
+had-room memory p true e h = (leb-true imageSize (length memory) e, rw e at h)
+had-room memory p false e h = five (rw e at h)
+
+had-lengths : (client mapped : List ℕ) (flags : ℕ) (b : Bool) → (eqb (length client) 16 && eqb (length mapped) 4) ≡ b
+    → answerNumber (preparedFrom client mapped flags .answer) ≡ 0 → (length client ≡ 16) × (length mapped ≡ 4)
+unfolding preparedFrom choose answerNumber
+had-lengths client mapped flags true e h =
+    let both = and-both (eqb (length client) 16) (eqb (length mapped) 4) e in
+    (eqb-true (length client) 16 (both .0), eqb-true (length mapped) 4 (both .1))
+had-lengths client mapped flags false e h = five (rw e at h)
+
+pub fresh-promised : (memory client mapped : List ℕ) (flags : ℕ) {n : ℕ} {image : List ℕ} → n ≡ setupNumber memory (preparedFrom client mapped flags)
+    → image ≡ placed memory 0 (imageOf (preparedFrom client mapped flags .session)) → every (λ n. leb n 255) mapped ≡ true → n ≡ answerNumber Answer.Done
+    → Fresh (record { client = client; mapped = mapped; flags = flags }) image
+unfolding answerNumber
+fresh-promised memory client mapped flags number put octets done =
+    let told = sym number ∙ done in
+    let had = had-room memory (preparedFrom client mapped flags) (leb imageSize (length memory)) refl told in
+    let sizes = had-lengths client mapped flags (eqb (length client) 16 && eqb (length mapped) 4) refl (had .1) in
+    record {
+      memory = memory;
+      room = had .0;
+      client = sizes .0;
+      mapped = sizes .1;
+      octets = octets;
+      number = told;
+      put = put;
+    }
+
+-- ---- a call
+
+pub call-promised : (image : List ℕ) (c : Call) (counts : List ℕ) (a : Answer) {n : ℕ} {counts′ image′ server client : List ℕ} → answerNumber a ≡ n
+    → n ≡ answerNumber (outcomeAt image c .called .answer) → image′ ≡ imageAfter image (outcomeAt image c .called)
+    → server ≡ serverAfter (outcomeAt image c) (lentServer c) → client ≡ clientAfter (outcomeAt image c) (lentClient c)
+    → counts′ ≡ countsAfter (outcomeAt image c .called) counts → 3 ≤ length counts → Promise image c (toldBy a counts′ image′ server client)
+unfolding countsAfter choose
+call-promised image c counts a e number memory server client told room =
+    let long = le-leb 3 (length counts) room in
+    record {
+      number = e ∙ number;
+      taken = rw (told, long);
+      toServer = rw (told, long);
+      toClient = rw (told, long);
+      memory = memory;
+      serverBuffer = server;
+      clientBuffer = client;
+    }
+
+-- ---- the offset
+
+set-first : (s : Session) (d : ℕ) (out : List ℕ) → d < 2 → 1 ≤ length out → getD (offsetAfter (offset s d) out) 0 0 ≡ offsetNumber (offset s (numberOf (sideOf d)))
+unfolding offset offsetAfter
+set-first s d [] h room = absurd (omega arith)
+set-first s zero (x ∷ out) h room = refl
+set-first s (suc zero) (x ∷ out) h room = refl
+set-first s (suc (suc d)) (x ∷ out) h room = absurd (omega arith)
+
+pub offset-promised : (s : Session) (d : ℕ) (out : List ℕ) {out′ : List ℕ} → out′ ≡ offsetAfter (offset s d) out → d < 2 → 1 ≤ length out
+    → getD out′ 0 0 ≡ offsetNumber (offset s (numberOf (sideOf d)))
+offset-promised s d out e h room = ap (λ (l : List ℕ). getD l 0 0) e ∙ set-first s d out h room

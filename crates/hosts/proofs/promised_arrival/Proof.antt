@@ -1,0 +1,32 @@
+-- `hosts::promised_arrival` meets its contract: it is what C calls, whose five equations are the promise.
+use borrow.Author.Needs.{needs}
+use Rattle.rules.specs.Demand3.{arrival}
+use Rattle.hosts.specs.Memory.{outcomeAt}
+use Rattle.hosts.proofs.Promises.{call-promised}
+use Rattle.hosts.proofs.promised_arrival.Statement.{statement}
+use Rattle.hosts.proofs.promised_arrival.Tie as tie
+
+fashlemor-arrive-requires : tie.Need-fashlemor-arrive-requires
+fashlemor-arrive-requires c κs = search needs
+
+same-length : tie.Need-same-length
+same-length c = search needs
+
+same-length-2 : tie.Need-same-length-2
+same-length-2 c = search needs
+
+same-length-3 : tie.Need-same-length-3
+same-length-3 c = search needs
+
+same-length-4 : tie.Need-same-length-4
+same-length-4 c = search needs
+
+returns : tie.Need-returns
+unfolding outcomeAt
+returns c =
+    let a = c .before .before .before .before .before .before .before .before .before .before .before .before .before .before .before .before .before .before .args in
+    let e = c .before .before .before .before .before .before .before .before .fashlemor-arrive .ensures in
+    λ answer number room. call-promised (a .image .now) (arrival (a .direction) (a .octets .now) (a .to-server .now) (a .to-client .now)) (a .counts .now) answer number (e .0) (e .1 .0) (e .1 .1 .0) (e .1 .1 .1 .0) (e .1 .1 .1 .1) room
+
+pub promised-arrival-spec : {M : Type 1} → statement M
+promised-arrival-spec = tie.close (tie.spec fashlemor-arrive-requires same-length same-length-2 same-length-3 same-length-4 returns)
