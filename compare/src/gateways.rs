@@ -2,7 +2,7 @@
 
 use reference::Gateway as ReferenceGateway;
 
-use crate::session::{Call, Session, Setup, What, FULL_ROOM};
+use crate::session::{Call, Rooms, Session, Setup, What, FULL_ROOM};
 use crate::text::octets_text;
 
 /// All that can be seen of a call.
@@ -14,11 +14,23 @@ pub struct Seen {
     pub to_client: Vec<u8>,
     /// The offset of each direction after the call.
     pub offsets: [u32; 2],
-    /// Something touched that must not be. The reference has nothing to touch.
+    /// Something touched that must not be, or said that cannot be.
     pub fault: Option<&'static str>,
 }
 
 impl Seen {
+    /// A setup takes and writes nothing.
+    fn of_setup(answer: u8, offsets: [u32; 2], fault: Option<&'static str>) -> Seen {
+        Seen {
+            answer,
+            taken: 0,
+            to_server: Vec::new(),
+            to_client: Vec::new(),
+            offsets,
+            fault,
+        }
+    }
+
     /// The result in words, on lines of their own.
     pub fn text(&self) -> String {
         let mut text = format!("    answer {}, taken {}\n", self.answer, self.taken);
@@ -63,17 +75,30 @@ pub fn difference<A: Gateway, B: Gateway>(session: &Session) -> Option<Differenc
 }
 
 /// The independent gateway in safe Rust.
-pub struct Reference(ReferenceGateway);
+pub struct Reference {
+    gateway: ReferenceGateway,
+    lent: Buffers,
+}
 
 impl Reference {
-    fn seen(&self, outcome: reference::Outcome) -> Seen {
-        Seen {
+    fn offsets(&self) -> [u32; 2] {
+        [0, 1].map(|direction| self.gateway.offset(direction))
+    }
+
+    fn called(&mut self, call: &Call) -> Counts {
+        let (to_server, to_client) = self.lent.lend(call.rooms);
+        let outcome = match &call.what {
+            What::Arrival(octets) => {
+                let gateway = &mut self.gateway;
+                gateway.arrive(call.direction, octets, to_server, to_client)
+            }
+            What::End => self.gateway.end(call.direction, to_server, to_client),
+        };
+        Counts {
             answer: outcome.answer,
             taken: outcome.taken,
             to_server: outcome.to_server,
             to_client: outcome.to_client,
-            offsets: [self.0.offset(0), self.0.offset(1)],
-            fault: None,
         }
     }
 }
@@ -81,21 +106,17 @@ impl Reference {
 impl Gateway for Reference {
     fn setup(setup: &Setup) -> (Reference, Seen) {
         let (gateway, answer) = ReferenceGateway::setup(setup.client, setup.mapped, setup.flags);
-        let gateway = Reference(gateway);
-        let seen = gateway.seen(reference::Outcome::answered(answer));
-        (gateway, seen)
+        let lent = Buffers::new();
+        let reference = Reference { gateway, lent };
+        let seen = Seen::of_setup(answer, reference.offsets(), None);
+        (reference, seen)
     }
 
     fn call(&mut self, call: &Call) -> Seen {
-        let rooms = call.rooms;
-        let outcome = match &call.what {
-            What::Arrival(octets) => {
-                let gateway = &mut self.0;
-                gateway.arrive(call.direction, octets, rooms.server, rooms.client)
-            }
-            What::End => self.0.end(call.direction, rooms.server, rooms.client),
-        };
-        self.seen(outcome)
+        let before = self.gateway.clone();
+        let counts = self.called(call);
+        let fault = self.lent.fault(call, counts, before != self.gateway);
+        self.lent.seen(counts, self.offsets(), fault)
     }
 }
 
@@ -105,8 +126,7 @@ const GUARD: usize = 64;
 /// The proved gateway, through the static library.
 pub struct Ours {
     record: Vec<u8>,
-    to_server: Lent,
-    to_client: Lent,
+    lent: Buffers,
 }
 
 impl Ours {
@@ -116,8 +136,7 @@ impl Ours {
         guarded.extend(&PATTERN[..GUARD]);
         Ours {
             record: guarded,
-            to_server: Lent::new(),
-            to_client: Lent::new(),
+            lent: Buffers::new(),
         }
     }
 
@@ -129,44 +148,30 @@ impl Ours {
         [0, 1].map(|direction| fashlemor::offset(self.record(), direction).unwrap_or(u32::MAX))
     }
 
-    /// What the library may not have done in a call that left this record.
-    fn fault(&self, before: &[u8], call: &Call, called: fashlemor::Called) -> Option<&'static str> {
-        let ended = call.what == What::End && called.answer == fashlemor::DONE;
-        let record_changed = before != self.record();
-        if self.record[self.record.len() - GUARD..] != PATTERN[..GUARD] {
-            Some("octets behind the record were written")
-        } else if record_changed && called.taken == 0 && !ended {
-            Some("nothing was taken, but the record is another")
-        } else if called.taken > call.octets().len() {
-            Some("more octets are said to be taken than there were")
-        } else if self
-            .to_server
-            .is_touched_behind(called.to_server, call.rooms.server)
-        {
-            Some("the server's buffer was touched beyond the octets written")
-        } else if self
-            .to_client
-            .is_touched_behind(called.to_client, call.rooms.client)
-        {
-            Some("the client's buffer was touched beyond the octets written")
-        } else {
-            None
-        }
+    fn is_written_behind(&self) -> bool {
+        self.record[self.record.len() - GUARD..] != PATTERN[..GUARD]
     }
 
-    fn called(&mut self, call: &Call) -> fashlemor::Called {
+    fn called(&mut self, call: &Call) -> Counts {
         let record_length = self.record.len() - GUARD;
         let record = &mut self.record[..record_length];
-        let to_server = &mut self.to_server.0[..call.rooms.server];
-        let to_client = &mut self.to_client.0[..call.rooms.client];
-        match &call.what {
+        let (to_server, to_client) = self.lent.lend(call.rooms);
+        let called = match &call.what {
             What::Arrival(octets) => {
                 fashlemor::arrive(record, call.direction, octets, to_server, to_client)
             }
             What::End => fashlemor::end(record, call.direction, to_server, to_client),
+        };
+        Counts {
+            answer: called.answer,
+            taken: called.taken,
+            to_server: called.to_server,
+            to_client: called.to_client,
         }
     }
 }
+
+const WRITTEN_BEHIND: &str = "octets behind the record were written";
 
 impl Gateway for Ours {
     fn setup(setup: &Setup) -> (Ours, Seen) {
@@ -174,35 +179,82 @@ impl Gateway for Ours {
         let record = &mut ours.record[..fashlemor::RECORD];
         let answer = fashlemor::setup(record, &setup.client, &setup.mapped, setup.flags);
         let dead = ours.record().iter().all(|&octet| octet == 0);
-        let behind = ours.record[fashlemor::RECORD..] != PATTERN[..GUARD];
-        let fault = if behind {
-            Some("octets behind the record were written")
+        let fault = if ours.is_written_behind() {
+            Some(WRITTEN_BEHIND)
         } else if dead != (answer != fashlemor::DONE) {
             Some("the record is all zero exactly when the setup is refused: not here")
         } else {
             None
         };
-        let seen = Seen {
-            answer,
-            taken: 0,
-            to_server: Vec::new(),
-            to_client: Vec::new(),
-            offsets: ours.offsets(),
-            fault,
-        };
+        let seen = Seen::of_setup(answer, ours.offsets(), fault);
         (ours, seen)
     }
 
     fn call(&mut self, call: &Call) -> Seen {
         let before = self.record().to_vec();
-        let called = self.called(call);
-        let fault = self.fault(&before, call, called);
+        let counts = self.called(call);
+        let fault = if self.is_written_behind() {
+            Some(WRITTEN_BEHIND)
+        } else {
+            self.lent.fault(call, counts, before != self.record())
+        };
+        self.lent.seen(counts, self.offsets(), fault)
+    }
+}
+
+/// What a call says it did.
+#[derive(Clone, Copy)]
+struct Counts {
+    answer: u8,
+    taken: usize,
+    to_server: usize,
+    to_client: usize,
+}
+
+/// The buffers that are lent for the octets to each side.
+struct Buffers {
+    to_server: Lent,
+    to_client: Lent,
+}
+
+impl Buffers {
+    fn new() -> Buffers {
+        Buffers {
+            to_server: Lent::new(),
+            to_client: Lent::new(),
+        }
+    }
+
+    fn lend(&mut self, rooms: Rooms) -> (&mut [u8], &mut [u8]) {
+        let to_server = &mut self.to_server.0[..rooms.server];
+        let to_client = &mut self.to_client.0[..rooms.client];
+        (to_server, to_client)
+    }
+
+    /// What a gateway may not have done in a call.
+    fn fault(&self, call: &Call, counts: Counts, record_changed: bool) -> Option<&'static str> {
+        let ended = call.what == What::End && counts.answer == reference::DONE;
+        let (server_room, client_room) = (call.rooms.server, call.rooms.client);
+        if record_changed && counts.taken == 0 && !ended {
+            Some("nothing was taken, but the record is another")
+        } else if counts.taken > call.octets().len() {
+            Some("more octets are said to be taken than there were")
+        } else if (self.to_server).is_touched_behind(counts.to_server, server_room) {
+            Some("the server's buffer was touched beyond the octets written")
+        } else if (self.to_client).is_touched_behind(counts.to_client, client_room) {
+            Some("the client's buffer was touched beyond the octets written")
+        } else {
+            None
+        }
+    }
+
+    fn seen(&mut self, counts: Counts, offsets: [u32; 2], fault: Option<&'static str>) -> Seen {
         Seen {
-            answer: called.answer,
-            taken: called.taken,
-            to_server: self.to_server.take(called.to_server),
-            to_client: self.to_client.take(called.to_client),
-            offsets: self.offsets(),
+            answer: counts.answer,
+            taken: counts.taken,
+            to_server: self.to_server.take(counts.to_server),
+            to_client: self.to_client.take(counts.to_client),
+            offsets,
             fault,
         }
     }
@@ -240,4 +292,32 @@ const fn made_pattern() -> [u8; FULL_ROOM + GUARD] {
         place += 1;
     }
     octets
+}
+
+#[cfg(test)]
+mod tests {
+    use super::*;
+
+    /// What is found after a call that says it wrote one octet to the server.
+    fn fault(touch: impl FnOnce(&mut [u8], &mut [u8])) -> Option<&'static str> {
+        let call = Call::end(0);
+        let counts = Counts {
+            answer: reference::DONE,
+            taken: 0,
+            to_server: 1,
+            to_client: 0,
+        };
+        let mut buffers = Buffers::new();
+        let (to_server, to_client) = buffers.lend(call.rooms);
+        touch(to_server, to_client);
+        buffers.fault(&call, counts, true)
+    }
+
+    #[test]
+    fn an_octet_beyond_the_count_is_a_fault() {
+        assert_eq!(fault(|to_server, _| to_server[0] ^= 1), None);
+        assert!(fault(|to_server, _| to_server[1] ^= 1).is_some());
+        assert!(fault(|_, to_client| to_client[0] ^= 1).is_some());
+        assert!(fault(|_, to_client| to_client[FULL_ROOM - 1] ^= 1).is_some());
+    }
 }

@@ -7,63 +7,103 @@ const GROUPS: usize = 8;
 
 /// The address that a text stands for, if it is IPv6 text.
 pub fn read(text: &[u8]) -> Option<[u8; 16]> {
-    let groups = match text.windows(2).position(|pair| pair == b"::") {
-        None => groups(text, true)?,
-        Some(gap) => filled(
-            groups(&text[..gap], false)?,
-            groups(&text[gap + 2..], true)?,
-        )?,
+    let mut groups = Groups::default();
+    let mut rest = match text {
+        [b':', b':', after @ ..] => {
+            groups.open_gap()?;
+            after
+        }
+        // A text of no octets has no groups.
+        [] => return None,
+        _ => text,
     };
-    let groups: [u16; GROUPS] = groups.try_into().ok()?;
-    let mut address = [0; 16];
-    for (octets, group) in address.chunks_exact_mut(2).zip(groups) {
-        octets.copy_from_slice(&group.to_be_bytes());
+    while !rest.is_empty() {
+        rest = groups.read_one(rest)?;
     }
-    Some(address)
+    groups.address()
 }
 
-/// The groups before and after a `::`, with the zeros between that it stands for.
-fn filled(before: Vec<u16>, after: Vec<u16>) -> Option<Vec<u16>> {
-    let left_out = GROUPS.checked_sub(before.len() + after.len())?;
-    (left_out >= 1).then(|| [before, vec![0; left_out], after].concat())
+/// The groups read so far, and how many of them stand before the `::`.
+#[derive(Default)]
+struct Groups {
+    groups: [u16; GROUPS],
+    count: usize,
+    gap: Option<usize>,
 }
 
-/// Groups with single colons between them, none for an empty text. A second `::` would leave an
-/// empty group here, which is refused. Only at the text's end may four dotted numbers stand.
-fn groups(text: &[u8], at_the_end: bool) -> Option<Vec<u16>> {
-    let mut groups = Vec::new();
-    if text.is_empty() {
-        return Some(groups);
+impl Groups {
+    /// Reads a group and the colons behind it, or the dotted numbers at the end, and gives what
+    /// is left. A single colon has a group behind it.
+    fn read_one<'text>(&mut self, text: &'text [u8]) -> Option<&'text [u8]> {
+        let (group, after) = group(text)?;
+        if let [b'.', ..] = after {
+            let [high, low] = dotted(text)?;
+            self.push(high)?;
+            self.push(low)?;
+            return Some(&[]);
+        }
+        self.push(group)?;
+        match after {
+            [] => Some(after),
+            [b':', b':', rest @ ..] => {
+                self.open_gap()?;
+                Some(rest)
+            }
+            [b':', rest @ ..] if !rest.is_empty() => Some(rest),
+            _ => None,
+        }
     }
-    let parts: Vec<&[u8]> = text.split(|&octet| octet == b':').collect();
-    let (last, others) = parts.split_last()?;
-    for part in others {
-        groups.push(group(part)?);
+
+    fn push(&mut self, group: u16) -> Option<()> {
+        *self.groups.get_mut(self.count)? = group;
+        self.count += 1;
+        Some(())
     }
-    if at_the_end && last.contains(&b'.') {
-        groups.extend(dotted(last)?);
-    } else {
-        groups.push(group(last)?);
+
+    /// "At most one `::`."
+    fn open_gap(&mut self) -> Option<()> {
+        self.gap.replace(self.count).is_none().then_some(())
     }
-    Some(groups)
+
+    /// Eight groups, or fewer and a `::` "standing for at least one group".
+    fn address(mut self) -> Option<[u8; 16]> {
+        let left_out = GROUPS - self.count;
+        match self.gap {
+            // Zeros stand behind the groups read; they belong into the gap.
+            Some(gap) if left_out > 0 => self.groups[gap..].rotate_right(left_out),
+            None if left_out == 0 => {}
+            _ => return None,
+        }
+        let mut octets = [0; 16];
+        for (pair, group) in octets.as_chunks_mut().0.iter_mut().zip(self.groups) {
+            *pair = group.to_be_bytes();
+        }
+        Some(octets)
+    }
 }
 
-fn group(text: &[u8]) -> Option<u16> {
-    if text.is_empty() || text.len() > 4 {
-        return None;
+/// The value of 1 to 4 hex digits, and what follows them.
+fn group(text: &[u8]) -> Option<(u16, &[u8])> {
+    let mut value = 0;
+    let mut rest = text;
+    while let [digit, after @ ..] = rest {
+        let Some(digit) = char::from(*digit).to_digit(16) else {
+            break;
+        };
+        if text.len() - after.len() > 4 {
+            return None;
+        }
+        value = value * 16 + digit as u16;
+        rest = after;
     }
-    text.iter().try_fold(0, |value, &digit| {
-        let digit = char::from(digit).to_digit(16)?;
-        Some(value * 16 + digit as u16)
-    })
+    (rest.len() < text.len()).then_some((value, rest))
 }
 
 /// Four dotted numbers count as two groups.
 fn dotted(text: &[u8]) -> Option<[u16; 2]> {
-    let numbers: Option<Vec<u8>> = text
-        .split(|&octet| octet == b'.')
-        .map(octet_number)
-        .collect();
-    let [a, b, c, d] = numbers?.try_into().ok()?;
-    Some([u16::from_be_bytes([a, b]), u16::from_be_bytes([c, d])])
+    let mut parts = text.split(|&octet| octet == b'.');
+    let mut number = || octet_number(parts.next()?);
+    let high = u16::from_be_bytes([number()?, number()?]);
+    let low = u16::from_be_bytes([number()?, number()?]);
+    parts.next().is_none().then_some([high, low])
 }

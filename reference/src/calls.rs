@@ -11,6 +11,9 @@
 
 use crate::gateway::{Gateway, Outcome, CLIENT, SERVER};
 
+/// The most room that two octets say.
+const MOST_ROOM: usize = 65535;
+
 /// The results of a script. One with no whole setup has none.
 pub fn run_calls(script: &[u8]) -> Vec<u8> {
     let mut script = Script(script);
@@ -18,9 +21,10 @@ pub fn run_calls(script: &[u8]) -> Vec<u8> {
         return Vec::new();
     };
     let mut results = vec![answer];
+    let (mut to_server, mut to_client) = ([0; MOST_ROOM], [0; MOST_ROOM]);
     while let Some(call) = script.call() {
-        let outcome = call.run(&mut gateway);
-        write_result(&mut results, &gateway, &outcome);
+        let outcome = call.run(&mut gateway, &mut to_server, &mut to_client);
+        write_result(&mut results, &gateway, &outcome, &to_server, &to_client);
     }
     results
 }
@@ -84,27 +88,31 @@ struct Call<'script> {
 }
 
 impl Call<'_> {
-    fn run(&self, gateway: &mut Gateway) -> Outcome {
-        let (server_room, client_room) = (self.server_room, self.client_room);
+    /// Runs the call with as much of the buffers as it says.
+    fn run(&self, gateway: &mut Gateway, to_server: &mut [u8], to_client: &mut [u8]) -> Outcome {
+        let to_server = &mut to_server[..self.server_room];
+        let to_client = &mut to_client[..self.client_room];
         if self.is_end {
-            gateway.end(self.direction, server_room, client_room)
+            gateway.end(self.direction, to_server, to_client)
         } else {
-            gateway.arrive(self.direction, self.octets, server_room, client_room)
+            gateway.arrive(self.direction, self.octets, to_server, to_client)
         }
     }
 }
 
-fn write_result(results: &mut Vec<u8>, gateway: &Gateway, outcome: &Outcome) {
+fn write_result(
+    results: &mut Vec<u8>,
+    gateway: &Gateway,
+    outcome: &Outcome,
+    to_server: &[u8],
+    to_client: &[u8],
+) {
     results.push(outcome.answer);
-    for count in [
-        outcome.taken,
-        outcome.to_server.len(),
-        outcome.to_client.len(),
-    ] {
+    for count in [outcome.taken, outcome.to_server, outcome.to_client] {
         results.extend((count as u32).to_be_bytes());
     }
-    results.extend(&outcome.to_server);
-    results.extend(&outcome.to_client);
+    results.extend(&to_server[..outcome.to_server]);
+    results.extend(&to_client[..outcome.to_client]);
     results.extend(gateway.offset(CLIENT).to_be_bytes());
     results.extend(gateway.offset(SERVER).to_be_bytes());
 }

@@ -1,52 +1,55 @@
 //! Client lines judged whole: what goes to the server, what is owed, and the switches.
 
 use crate::address;
-use crate::lines::{all_digits, argument, content, number, same_word, word};
-
-/// A kind on the queue of replies owed.
-#[derive(Clone, Copy, Debug, PartialEq, Eq)]
-pub enum Owed {
-    Plain,
-    TranslatedEpsv,
-    Own(OwnAnswer),
-    Auth,
-}
-
-/// An answer that the gateway gives itself, in place of the server.
-#[derive(Clone, Copy, Debug, PartialEq, Eq)]
-pub enum OwnAnswer {
-    ProtocolNotSupported,
-    ParameterNotImplemented,
-    /// The state when the ALGS line was finished, whenever the answer gets out.
-    State {
-        epsv: bool,
-        eprt: bool,
-    },
-}
-
-impl OwnAnswer {
-    pub fn line(self) -> &'static [u8] {
-        match self {
-            OwnAnswer::ProtocolNotSupported => b"522 Network protocol not supported\r\n",
-            OwnAnswer::ParameterNotImplemented => {
-                b"504 Command not implemented for that parameter\r\n"
-            }
-            OwnAnswer::State { epsv, eprt } => match (epsv, eprt) {
-                (false, false) => b"216 NONE\r\n",
-                (true, false) => b"216 EPSV\r\n",
-                (false, true) => b"216 EPRT\r\n",
-                (true, true) => b"216 EPSVEPRT\r\n",
-            },
-        }
-    }
-}
+use crate::lines::{all_digits, content, number, same_word, without_spaces};
+use crate::made::MadeLine;
+use crate::output::Given;
+use crate::queue::{Owed, OwnAnswer};
 
 /// Which translations are on. Setup gives them, ALGS changes them.
 #[derive(Clone, Copy, Debug, PartialEq, Eq)]
-pub struct Switches {
-    pub epsv: bool,
-    pub eprt_supported: bool,
-    pub eprt: bool,
+pub struct Switches(u8);
+
+impl Switches {
+    const EPSV: u8 = 1;
+    const EPRT_SUPPORTED: u8 = 2;
+    const EPRT: u8 = 4;
+
+    /// "Bit 0 EPSV translation on, bit 1 EPRT supported, bit 2 EPRT translation on, other bits
+    /// zero." Refused are "an undefined flag bit, or EPRT on and not supported".
+    pub fn of_flags(flags: u8) -> Option<Switches> {
+        let switches = Switches(flags);
+        let undefined = flags & !(Switches::EPSV | Switches::EPRT_SUPPORTED | Switches::EPRT) != 0;
+        let unsupported = switches.eprt() && !switches.eprt_supported();
+        (!undefined && !unsupported).then_some(switches)
+    }
+
+    pub fn epsv(self) -> bool {
+        self.0 & Switches::EPSV != 0
+    }
+
+    pub fn eprt_supported(self) -> bool {
+        self.0 & Switches::EPRT_SUPPORTED != 0
+    }
+
+    pub fn eprt(self) -> bool {
+        self.0 & Switches::EPRT != 0
+    }
+
+    /// "ENABLE64 sets EPSV on and, if supported, EPRT on."
+    fn enabled(self) -> Switches {
+        let eprt = if self.eprt_supported() {
+            Switches::EPRT
+        } else {
+            0
+        };
+        Switches(self.0 | Switches::EPSV | eprt)
+    }
+
+    /// "DISABLE64 sets both off."
+    fn disabled(self) -> Switches {
+        Switches(self.0 & Switches::EPRT_SUPPORTED)
+    }
 }
 
 /// The client's IPv6 address and the IPv4 address it is mapped to.
@@ -56,60 +59,67 @@ pub struct Addresses {
     pub mapped: [u8; 4],
 }
 
-/// What becomes of a client line: the octets for the server and the kind owed.
-#[derive(Clone, Debug, PartialEq, Eq)]
+/// What becomes of a client line: what it gives to the server, the kind owed and the switches
+/// after it.
+#[derive(Clone, Copy, Debug)]
 pub struct Judged {
-    pub to_server: Vec<u8>,
+    pub given: Given,
     pub owed: Owed,
+    pub switches: Switches,
 }
 
-impl Judged {
-    fn passes(line: &[u8], owed: Owed) -> Judged {
-        let to_server = line.to_vec();
-        Judged { to_server, owed }
-    }
-
-    fn answered(answer: OwnAnswer) -> Judged {
-        let to_server = Vec::new();
-        let owed = Owed::Own(answer);
-        Judged { to_server, owed }
-    }
-}
-
-/// Judges a client line before AUTH. A line that no rule takes hold of passes unchanged.
-pub fn judge(line: &[u8], addresses: Addresses, switches: &mut Switches) -> Judged {
-    let content = content(line);
-    let argument = argument(content);
-    let taken_hold_of = match &word(content).to_ascii_uppercase()[..] {
-        b"EPSV" if switches.epsv => epsv(argument),
-        b"EPRT" if switches.eprt => eprt(argument, addresses),
-        b"ALGS" => Some(Judged::answered(algs(argument, switches))),
-        b"AUTH" => Some(Judged::passes(line, Owed::Auth)),
-        _ => None,
+/// Judges a client line before AUTH, of which `text` stands before the LF. A line that no rule
+/// takes hold of passes unchanged.
+pub fn judge(text: &[u8], addresses: &Addresses, switches: Switches) -> Judged {
+    let judged = |(given, owed)| Judged {
+        given,
+        owed,
+        switches,
     };
-    taken_hold_of.unwrap_or_else(|| Judged::passes(line, Owed::Plain))
+    let passes = (Given::Line, Owed::Plain);
+    let Some((word, argument)) = command(content(text)) else {
+        return judged(passes);
+    };
+    match &word {
+        b"EPSV" if switches.epsv() => judged(epsv(argument).unwrap_or(passes)),
+        b"EPRT" if switches.eprt() => judged(eprt(argument, addresses).unwrap_or(passes)),
+        b"ALGS" => algs(argument, switches),
+        b"AUTH" => judged((Given::Line, Owed::Auth)),
+        _ => judged(passes),
+    }
 }
 
 /// A flowing line is AUTH "if its first five octets are AUTH and a space".
-pub fn flowing_auth(line: &[u8]) -> bool {
-    line.get(..5)
-        .is_some_and(|start| same_word(start, b"AUTH "))
+pub fn flowing_auth(start: &[u8; 5]) -> bool {
+    same_word(start, b"AUTH ")
 }
 
-fn epsv(argument: &[u8]) -> Option<Judged> {
+/// "A command word ends at the first space or the content's end." All words that a rule takes
+/// hold of have four letters, so this gives the word if it may be one of them, in capitals, and
+/// what follows it.
+fn command(content: &[u8]) -> Option<([u8; 4], &[u8])> {
+    let (word, rest) = content.split_first_chunk::<4>()?;
+    let ends = matches!(rest, [] | [b' ', ..]);
+    ends.then(|| (word.map(|octet| octet.to_ascii_uppercase()), rest))
+}
+
+fn epsv(argument: &[u8]) -> Option<(Given, Owed)> {
+    let argument = without_spaces(argument);
     if same_word(argument, b"ALL") {
-        return Some(Judged::answered(OwnAnswer::ParameterNotImplemented));
+        return Some(answered(OwnAnswer::ParameterNotImplemented));
     }
     if !all_digits(argument) {
         return None;
     }
     if !argument.is_empty() && without_leading_zeros(argument) != b"2" {
-        return Some(Judged::answered(OwnAnswer::ProtocolNotSupported));
+        return Some(answered(OwnAnswer::ProtocolNotSupported));
     }
-    Some(Judged {
-        to_server: b"PASV\r\n".to_vec(),
-        owed: Owed::TranslatedEpsv,
-    })
+    Some((Given::Made(MadeLine::Pasv), Owed::TranslatedEpsv))
+}
+
+/// A line that goes nowhere.
+fn answered(answer: OwnAnswer) -> (Given, Owed) {
+    (Given::Nothing, Owed::Own(answer))
 }
 
 /// Some 500 digits fit into a line, so the value is compared as text.
@@ -119,19 +129,16 @@ fn without_leading_zeros(digits: &[u8]) -> &[u8] {
 }
 
 /// "A translated EPRT is plain."
-fn eprt(argument: &[u8], addresses: Addresses) -> Option<Judged> {
-    let [protocol, address, port] = fields(argument)?;
-    let address = address::read(address)?;
-    let port = number(port, 5, 65535)?;
-    if protocol != b"2" || address != addresses.client || port == 0 {
+fn eprt(argument: &[u8], addresses: &Addresses) -> Option<(Given, Owed)> {
+    let [protocol, address, port] = fields(without_spaces(argument))?;
+    let port = number(port, 5, 65535)? as u16;
+    if protocol != b"2" || port == 0 || address::read(address)? != addresses.client {
         return None;
     }
+    let [high, low] = port.to_be_bytes();
     let [a, b, c, d] = addresses.mapped;
-    let (high, low) = (port / 256, port % 256);
-    Some(Judged {
-        to_server: format!("PORT {a},{b},{c},{d},{high},{low}\r\n").into_bytes(),
-        owed: Owed::Plain,
-    })
+    let line = MadeLine::Port([a, b, c, d, high, low]);
+    Some((Given::Made(line), Owed::Plain))
 }
 
 /// "The argument's first octet (33 to 126) is the delimiter; it must stand exactly four times,
@@ -141,28 +148,37 @@ fn fields(argument: &[u8]) -> Option<[&[u8]; 3]> {
     if !(33..=126).contains(&delimiter) {
         return None;
     }
-    let parts: Vec<&[u8]> = argument.split(|&octet| octet == delimiter).collect();
-    match parts[..] {
-        [b"", protocol, address, port, b""] => Some([protocol, address, port]),
+    let mut parts = argument.split(|&octet| octet == delimiter);
+    let mut part = || parts.next();
+    match [part()?, part()?, part()?, part()?, part()?] {
+        [b"", protocol, address, port, b""] if parts.next().is_none() => {
+            Some([protocol, address, port])
+        }
         _ => None,
     }
 }
 
-fn algs(argument: &[u8], switches: &mut Switches) -> OwnAnswer {
-    match &argument.to_ascii_uppercase()[..] {
-        b"STATUS64" => {}
-        b"ENABLE64" => {
-            switches.epsv = true;
-            switches.eprt |= switches.eprt_supported;
-        }
-        b"DISABLE64" => {
-            switches.epsv = false;
-            switches.eprt = false;
-        }
-        _ => return OwnAnswer::ParameterNotImplemented,
-    }
-    OwnAnswer::State {
-        epsv: switches.epsv,
-        eprt: switches.eprt,
+/// ALGS "in a line judged whole never goes to the server". "Other or no argument: the 504."
+fn algs(argument: &[u8], before: Switches) -> Judged {
+    let argument = without_spaces(argument);
+    let after = if same_word(argument, b"STATUS64") {
+        Some(before)
+    } else if same_word(argument, b"ENABLE64") {
+        Some(before.enabled())
+    } else if same_word(argument, b"DISABLE64") {
+        Some(before.disabled())
+    } else {
+        None
+    };
+    let answer = match after {
+        Some(state) => OwnAnswer::state(state.epsv(), state.eprt()),
+        None => OwnAnswer::ParameterNotImplemented,
+    };
+    let (given, owed) = answered(answer);
+    let switches = after.unwrap_or(before);
+    Judged {
+        given,
+        owed,
+        switches,
     }
 }

@@ -90,13 +90,16 @@ fn cut_bodies<'file>(table: &[(Kind, usize)], bodies: &'file [u8]) -> Option<Vec
 fn replay(entries: &[Entry]) -> String {
     let mut report = format!("FTP64 REPORT {}\n", entries.len());
     let (mut gateway, setup_answer) = setup(entries[0].body);
+    let (mut to_server, mut to_client) = ([0; ROOM], [0; ROOM]);
     for (number, entry) in entries.iter().enumerate() {
         let outcome = match entry.kind {
             Kind::Setup => Outcome::answered(setup_answer),
-            Kind::Arrival(direction) => gateway.arrive(direction, entry.body, ROOM, ROOM),
-            Kind::End(direction) => gateway.end(direction, ROOM, ROOM),
+            Kind::Arrival(direction) => {
+                gateway.arrive(direction, entry.body, &mut to_server, &mut to_client)
+            }
+            Kind::End(direction) => gateway.end(direction, &mut to_server, &mut to_client),
         };
-        report += &entry_line(number, &outcome);
+        report += &entry_line(number, &outcome, &to_server, &to_client);
         if outcome.answer != DONE {
             report += "STOPPED\n";
             break;
@@ -115,10 +118,10 @@ fn setup(body: &[u8]) -> (Gateway, u8) {
 }
 
 /// "Number, taken (0 for setup and ends), answer, octets to the server, octets to the client."
-fn entry_line(number: usize, outcome: &Outcome) -> String {
+fn entry_line(number: usize, outcome: &Outcome, to_server: &[u8], to_client: &[u8]) -> String {
     let Outcome { answer, taken, .. } = outcome;
-    let to_server = escaped(&outcome.to_server);
-    let to_client = escaped(&outcome.to_client);
+    let to_server = escaped(&to_server[..outcome.to_server]);
+    let to_client = escaped(&to_client[..outcome.to_client]);
     format!("{number} {taken} {answer} {to_server} {to_client}\n")
 }
 

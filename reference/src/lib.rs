@@ -1,13 +1,19 @@
-//! A reference for the FTP gateway of document 01, in ordinary Rust and by whole lines.
+//! A reference for the FTP gateway of document 01: an ordinary gateway in safe Rust.
 //!
-//! It is written to be read next to document 01 and to be compared, octet by octet, with any
-//! other gateway that follows the same rules. Quoted sentences are document 01's.
+//! It is written to be read next to document 01 and to be compared, call by call, with any other
+//! gateway that follows the same rules. Quoted sentences are document 01's. It takes octets by
+//! lines and by runs where document 01 speaks of single ones: a step measures what the octet that
+//! ends it writes, so it stops just where that octet would, and nothing is taken back.
 //!
-//! - [`lines`]: content, word, argument, numbers
+//! - [`lines`]: where a line ends, content, argument, numbers
 //! - [`address`]: IPv6 text
 //! - [`commands`]: what a client line becomes and what is owed for it
 //! - [`replies`]: what a server line says and when it becomes a 229
-//! - [`gateway`]: the session with its setup, arrivals and ends
+//! - [`made`]: the lines that the gateway makes
+//! - [`queue`]: the replies owed
+//! - [`output`]: the lent buffers
+//! - `side`, `client`, `server`: the unfinished line of a direction, and the steps of each
+//! - [`gateway`]: setup, arrivals and ends
 //! - [`files`]: session files and the report on them
 //! - [`calls`]: a list of calls in octets, and its results in octets
 
@@ -15,10 +21,19 @@
 
 pub mod address;
 pub mod calls;
+mod client;
 pub mod commands;
 pub mod files;
 pub mod gateway;
 pub mod lines;
+pub mod made;
+pub mod output;
+pub mod queue;
 pub mod replies;
+mod server;
+mod side;
 
-pub use gateway::{Gateway, Outcome};
+pub use gateway::{
+    Gateway, Outcome, BAD_FLAGS, CLIENT, DONE, HAS_ENDED, NOT_LIVE, NO_DIRECTION, NO_ROOM,
+    QUEUE_FULL, SERVER,
+};

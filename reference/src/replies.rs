@@ -1,6 +1,7 @@
 //! Server lines: which of them end a reply, and the 229 that a readable 227 becomes.
 
 use crate::lines::octet_number;
+use crate::made::MadeLine;
 
 /// Code of a line that ends a reply.
 #[derive(Clone, Copy, Debug, PartialEq, Eq)]
@@ -29,10 +30,9 @@ impl Code {
 }
 
 /// The 229 that a 227 becomes, if its port can be read and is not 0.
-pub fn extended_passive(content: &[u8]) -> Option<Vec<u8>> {
-    let port = passive_port(content)?;
-    let line = format!("229 Entering Extended Passive Mode (|||{port}|)\r\n");
-    (port != 0).then(|| line.into_bytes())
+pub fn extended_passive(content: &[u8]) -> Option<MadeLine> {
+    let port = passive_port(content).filter(|&port| port != 0)?;
+    Some(MadeLine::ExtendedPassive(port))
 }
 
 /// The port is the fifth number times 256 plus the sixth. "The address is ignored."

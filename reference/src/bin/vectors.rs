@@ -9,7 +9,9 @@
 //! - `A`: sums of the PORT and 229 lines of all ports
 
 use reference::address;
-use reference::commands::{judge, Addresses, Owed, Switches};
+use reference::commands::{judge, Addresses, Switches};
+use reference::output::Given;
+use reference::queue::Owed;
 use reference::replies::{extended_passive, Code};
 use std::io::{self, Read, Write};
 
@@ -19,6 +21,9 @@ const ADDRESSES: Addresses = Addresses {
     ],
     mapped: [192, 0, 2, 31],
 };
+
+/// EPSV on, EPRT supported and on.
+const ALL_ON: u8 = 7;
 
 fn main() -> io::Result<()> {
     let mut vectors = Vec::new();
@@ -48,18 +53,13 @@ fn address(text: &[u8]) -> Vec<u8> {
 }
 
 fn command(text: &[u8]) -> Vec<u8> {
-    let line = [text, b"\n"].concat();
-    let mut switches = Switches {
-        epsv: true,
-        eprt_supported: true,
-        eprt: true,
-    };
-    let judged = judge(&line, ADDRESSES, &mut switches);
-    match judged.owed {
-        Owed::Own(answer) => answer.line().to_vec(),
-        Owed::Auth => b"passes, AUTH\n".to_vec(),
-        Owed::Plain if judged.to_server == line => b"passes\n".to_vec(),
-        Owed::Plain | Owed::TranslatedEpsv => judged.to_server,
+    let switches = Switches::of_flags(ALL_ON).expect("defined flags");
+    let judged = judge(text, &ADDRESSES, switches);
+    match (judged.given, judged.owed) {
+        (Given::Made(line), _) => line.to_vec(),
+        (_, Owed::Own(answer)) => answer.line().to_vec(),
+        (_, Owed::Auth) => b"passes, AUTH\n".to_vec(),
+        _ => b"passes\n".to_vec(),
     }
 }
 
@@ -72,7 +72,10 @@ fn reply_line(content: &[u8]) -> &'static [u8] {
 }
 
 fn passive_reply(content: &[u8]) -> Vec<u8> {
-    extended_passive(content).unwrap_or_else(|| b"passes\n".to_vec())
+    match extended_passive(content) {
+        Some(line) => line.to_vec(),
+        None => b"passes\n".to_vec(),
+    }
 }
 
 /// Port 0 is no port that a line may be read from, so its two lines are written out here.

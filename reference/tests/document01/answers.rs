@@ -1,7 +1,5 @@
 //! The table of answers, row by row, its order, and the bounds below it.
 
-use reference::{Gateway, Outcome};
-
 use crate::talk::{Step::*, *};
 
 /// Calls that are refused must leave the gateway equal.

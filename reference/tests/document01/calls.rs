@@ -1,10 +1,9 @@
 //! Lists of calls in octets.
 
 use reference::calls::run_calls;
-use reference::Gateway;
 
 use crate::random::Random;
-use crate::talk::{CLIENT_ADDRESS, EXTENDED_PASSIVE, MAPPED, NOT_SUPPORTED, PASSIVE};
+use crate::talk::{Gateway, CLIENT_ADDRESS, EXTENDED_PASSIVE, MAPPED, NOT_SUPPORTED, PASSIVE};
 
 const ARRIVAL: u8 = 0;
 const END: u8 = 1;

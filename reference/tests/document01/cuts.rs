@@ -1,10 +1,13 @@
 //! Sessions cut into other arrivals, or given less room, give the same octets.
 
-use reference::commands::{self, Addresses, Owed, Switches};
-use reference::{Gateway, Outcome};
+use reference::commands::{self, Addresses, Switches};
+use reference::output::Given;
+use reference::queue::Owed;
 
 use crate::random::{session, Item, Random};
-use crate::talk::{fresh, ALL_ON, CLIENT, CLIENT_ADDRESS, MAPPED, PLENTY, SERVER};
+use crate::talk::{
+    fresh, Gateway, Outcome, ALL_ON, CLIENT, CLIENT_ADDRESS, MAPPED, PLENTY, SERVER,
+};
 
 /// The flags that setup takes.
 const FLAGS: [u8; 6] = [0, 1, 2, 3, 6, 7];
@@ -131,6 +134,52 @@ fn run_tight(gateway: &mut Gateway, item: &Item, random: &mut Random) -> Outcome
     }
 }
 
+/// "Octet by octet 1 before 2": whatever the room, an arrival stops just where its octets would
+/// if they came one by one into what room is left, with the same octets and the same record.
+#[test]
+fn a_stop_is_where_single_octets_stop() {
+    let mut random = Random::new(6);
+    let mut stops = [0; 7];
+    for round in 0..600 {
+        let mut gateway = fresh(FLAGS[round % FLAGS.len()]);
+        for item in session(&mut random, 30) {
+            let Item::Arrival(direction, octets) = item else {
+                run(&mut gateway, &item);
+                continue;
+            };
+            let scale = random.pick(&[&1, &10, &100, &1400]);
+            let rooms = [random.below(*scale), random.below(*scale)];
+            let mut single = gateway.clone();
+            let outcome = gateway.arrive(direction, &octets, rooms[0], rooms[1]);
+            let of_single = run_singly(&mut single, direction, &octets, rooms);
+            assert_eq!(outcome, of_single, "round {round}");
+            assert_eq!(gateway, single, "round {round}");
+            stops[usize::from(outcome.answer)] += 1;
+        }
+    }
+    assert!([0, 1, 2, 6].iter().all(|&answer| stops[answer] > 50));
+}
+
+/// An empty arrival, then octets one by one until one of them waits.
+fn run_singly(
+    gateway: &mut Gateway,
+    direction: u8,
+    octets: &[u8],
+    [server_room, client_room]: [usize; 2],
+) -> Outcome {
+    let mut all = gateway.arrive(direction, &[], server_room, client_room);
+    for octet in octets.chunks(1) {
+        if all.answer != 0 {
+            break;
+        }
+        let server_left = server_room - all.to_server.len();
+        let client_left = client_room - all.to_client.len();
+        let outcome = gateway.arrive(direction, octet, server_left, client_left);
+        all = join(all, outcome);
+    }
+    all
+}
+
 /// "A non-empty arrival not refused by 3, 4, 6 or stopped by 1 takes at least one octet when
 /// each buffer has 1,280 free", since no octet writes more than 512 and 1,280.
 #[test]
@@ -178,27 +227,26 @@ fn to_server(flags: u8, said: &[u8], ended: bool) -> Vec<u8> {
         client: CLIENT_ADDRESS,
         mapped: MAPPED,
     };
-    let mut switches = Switches {
-        epsv: flags & 1 != 0,
-        eprt_supported: flags & 2 != 0,
-        eprt: flags & 4 != 0,
-    };
+    let mut switches = Switches::of_flags(flags).expect("defined flags");
     let mut given = Vec::new();
     let mut rest = said;
     while let Some(lf) = rest.iter().position(|&octet| octet == b'\n') {
         let (line, after) = rest.split_at(lf + 1);
         rest = after;
-        if line.len() > 512 {
+        let is_auth = if line.len() > 512 {
             given.extend(line);
-            if commands::flowing_auth(line) {
-                given.extend(rest);
-                return given;
+            line.first_chunk().is_some_and(commands::flowing_auth)
+        } else {
+            let judged = commands::judge(&line[..lf], &addresses, switches);
+            match judged.given {
+                Given::Line => given.extend(line),
+                Given::Made(made) => given.extend(made.to_vec()),
+                Given::Nothing => {}
             }
-            continue;
-        }
-        let judged = commands::judge(line, addresses, &mut switches);
-        given.extend(judged.to_server);
-        if judged.owed == Owed::Auth {
+            switches = judged.switches;
+            judged.owed == Owed::Auth
+        };
+        if is_auth {
             given.extend(rest);
             return given;
         }
@@ -213,18 +261,16 @@ fn to_server(flags: u8, said: &[u8], ended: bool) -> Vec<u8> {
 #[test]
 fn long_traffic_is_not_quadratic() {
     let traffic = vec![b'x'; 1_000_000];
-    let mut gateway = fresh(ALL_ON);
-    for direction in [CLIENT, SERVER] {
-        let outcome = gateway.arrive(direction, &traffic, PLENTY, PLENTY);
-        assert_eq!((outcome.answer, outcome.taken), (0, traffic.len()));
-        assert_eq!(gateway.offset(direction), 0);
-    }
-    let mut gateway = fresh(ALL_ON);
-    gateway.arrive(CLIENT, b"AUTH\r\n", PLENTY, PLENTY);
-    gateway.arrive(SERVER, b"220\r\n", PLENTY, PLENTY);
-    for direction in [CLIENT, SERVER] {
-        let outcome = gateway.arrive(direction, &traffic, PLENTY, PLENTY);
-        assert_eq!((outcome.answer, outcome.taken), (0, traffic.len()));
-        assert_eq!(gateway.offset(direction), 0);
+    let mut flowing = fresh(ALL_ON);
+    let mut behind_auth = fresh(ALL_ON);
+    behind_auth.arrive(CLIENT, b"AUTH\r\n", PLENTY, PLENTY);
+    behind_auth.arrive(SERVER, b"220\r\n", PLENTY, PLENTY);
+    for gateway in [&mut flowing, &mut behind_auth] {
+        for direction in [CLIENT, SERVER] {
+            let room = traffic.len();
+            let outcome = gateway.arrive(direction, &traffic, room, room);
+            assert_eq!((outcome.answer, outcome.taken), (0, traffic.len()));
+            assert_eq!(gateway.offset(direction), 0);
+        }
     }
 }

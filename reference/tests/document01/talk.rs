@@ -1,7 +1,5 @@
 //! Sessions written as steps, each with what it gives.
 
-use reference::{Gateway, Outcome};
-
 pub const CLIENT: u8 = 0;
 pub const SERVER: u8 = 1;
 
@@ -16,13 +14,94 @@ pub const EPRT_SUPPORTED: u8 = 2;
 pub const EPRT_ON: u8 = 6;
 pub const ALL_ON: u8 = 7;
 
-/// Room that no test fills.
-pub const PLENTY: usize = 1 << 24;
+/// Room that no test fills, but for those that say a room of their own.
+pub const PLENTY: usize = 8192;
 
 pub const NOT_SUPPORTED: &str = "522 Network protocol not supported\r\n";
 pub const NOT_IMPLEMENTED: &str = "504 Command not implemented for that parameter\r\n";
 pub const PASSIVE: &str = "227 Entering Passive Mode (192,0,2,31,237,19)\r\n";
 pub const EXTENDED_PASSIVE: &str = "229 Entering Extended Passive Mode (|||60691|)\r\n";
+
+/// What a call answers, how many octets it took, and those it wrote for each side.
+#[derive(Clone, Debug, Default, PartialEq, Eq)]
+pub struct Outcome {
+    pub answer: u8,
+    pub taken: usize,
+    pub to_server: Vec<u8>,
+    pub to_client: Vec<u8>,
+}
+
+impl Outcome {
+    /// An answer with nothing taken and nothing written.
+    pub fn answered(answer: u8) -> Outcome {
+        Outcome {
+            answer,
+            ..Outcome::default()
+        }
+    }
+}
+
+/// The gateway, lent buffers of just the rooms said.
+#[derive(Clone, Debug, PartialEq, Eq)]
+pub struct Gateway(reference::Gateway);
+
+impl Gateway {
+    pub fn setup(client: [u8; 16], mapped: [u8; 4], flags: u8) -> (Gateway, u8) {
+        let (gateway, answer) = reference::Gateway::setup(client, mapped, flags);
+        (Gateway(gateway), answer)
+    }
+
+    #[track_caller]
+    pub fn arrive(
+        &mut self,
+        direction: u8,
+        octets: &[u8],
+        server_room: usize,
+        client_room: usize,
+    ) -> Outcome {
+        lend(server_room, client_room, |to_server, to_client| {
+            self.0.arrive(direction, octets, to_server, to_client)
+        })
+    }
+
+    #[track_caller]
+    pub fn end(&mut self, direction: u8, server_room: usize, client_room: usize) -> Outcome {
+        lend(server_room, client_room, |to_server, to_client| {
+            self.0.end(direction, to_server, to_client)
+        })
+    }
+
+    pub fn offset(&self, direction: u8) -> u32 {
+        self.0.offset(direction)
+    }
+}
+
+/// What stands in a buffer before it is lent.
+const OLD: u8 = 0xa5;
+
+/// Lends buffers to a call. "Buffers keep their old contents beyond the written count."
+#[track_caller]
+fn lend(
+    server_room: usize,
+    client_room: usize,
+    call: impl FnOnce(&mut [u8], &mut [u8]) -> reference::Outcome,
+) -> Outcome {
+    let (mut to_server, mut to_client) = (vec![OLD; server_room], vec![OLD; client_room]);
+    let outcome = call(&mut to_server, &mut to_client);
+    for rest in [
+        to_server.split_off(outcome.to_server),
+        to_client.split_off(outcome.to_client),
+    ] {
+        let kept = rest.iter().fold(true, |kept, &octet| kept & (octet == OLD));
+        assert!(kept, "octets beyond the written count are others");
+    }
+    Outcome {
+        answer: outcome.answer,
+        taken: outcome.taken,
+        to_server,
+        to_client,
+    }
+}
 
 #[derive(Debug)]
 pub enum Step<'text> {

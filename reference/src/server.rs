@@ -1,0 +1,175 @@
+//! The server's direction: its lines, the replies owed, and what follows each octet.
+
+use crate::lines::{content, find_lf};
+use crate::output::{Given, Output, Step};
+use crate::queue::{Owed, Queue};
+use crate::replies::{extended_passive, Code};
+use crate::side::{Place, Reach, Side};
+
+/// After each octet the queue is settled: no own answer stands at its head that may be written,
+/// and where AUTH does, the server's octets pass at once.
+#[derive(Clone, Debug, PartialEq, Eq)]
+pub struct Server {
+    pub side: Side,
+    owed: Queue,
+    reply_unfinished: bool,
+}
+
+/// What the LF of a server line does to the queue.
+struct LineEnd {
+    ends_reply: bool,
+    /// The first owed kind, if the line removes it.
+    removed: Option<Owed>,
+    /// Octets of the own answers that follow.
+    answers: usize,
+}
+
+impl Server {
+    pub fn fresh() -> Server {
+        Server {
+            side: Side::fresh(),
+            owed: Queue::fresh(),
+            reply_unfinished: false,
+        }
+    }
+
+    pub fn owes_most(&self) -> bool {
+        self.owed.is_full()
+    }
+
+    /// Takes octets up to the end of the line, the 512th of it, or the first that has to wait.
+    /// Number 6 stands before octets of a side that has ended.
+    pub fn step(&mut self, octets: &[u8], to_client: &mut Output) -> Step {
+        match self.side.place {
+            Place::Holding => self.hold(octets, to_client),
+            Place::Flowing(start) => self.flow(Code::read(&start), octets, to_client),
+            Place::PassingAtOnce | Place::Ended => to_client.pass(octets),
+        }
+    }
+
+    /// "When the 512th octet is not LF, the held octets are let go unchanged."
+    fn hold(&mut self, octets: &[u8], to_client: &mut Output) -> Step {
+        match self.side.reach(octets) {
+            Reach::Unfinished => {
+                self.side.hold(octets);
+                Step::took(octets.len())
+            }
+            Reach::End(lf) => self.finish_line(&octets[..lf], to_client),
+            Reach::TooLong(count) if to_client.room() < self.side.held().len() + count => {
+                self.side.hold(&octets[..count - 1]);
+                Step::waits_after(count - 1)
+            }
+            Reach::TooLong(count) => {
+                self.side.let_go(&octets[..count], to_client);
+                Step::took(count)
+            }
+        }
+    }
+
+    /// The LF of a line judged whole, of which `last` are the last octets before it. A 227
+    /// becomes a 229 if it answers a translated EPSV "and no earlier line belongs to its reply".
+    /// "All other server lines pass."
+    fn finish_line(&mut self, last: &[u8], to_client: &mut Output) -> Step {
+        let text = self.side.join(last);
+        let content = content(text);
+        let end = line_end(&self.owed, Code::read(content));
+        let made = match end.removed {
+            Some(Owed::TranslatedEpsv) if !self.reply_unfinished => extended_passive(content),
+            _ => None,
+        };
+        let given = made.map_or(Given::Line, Given::Made);
+        if given.length(text) + end.answers > to_client.room() {
+            self.side.keep(last);
+            return Step::waits_after(last.len());
+        }
+        to_client.write_line(given, text);
+        self.pass_line_end(end, to_client);
+        Step::took(last.len() + 1)
+    }
+
+    /// "The rest of that line flows unchanged", and it "counts when its LF passes".
+    fn flow(&mut self, code: Option<Code>, octets: &[u8], to_client: &mut Output) -> Step {
+        let fitting = &octets[..octets.len().min(to_client.room())];
+        let Some(lf) = find_lf(fitting) else {
+            return to_client.pass(octets);
+        };
+        let end = line_end(&self.owed, code);
+        if lf + 1 + end.answers > to_client.room() {
+            to_client.write(&octets[..lf]);
+            return Step::waits_after(lf);
+        }
+        to_client.write(&octets[..=lf]);
+        self.pass_line_end(end, to_client);
+        Step::took(lf + 1)
+    }
+
+    fn pass_line_end(&mut self, end: LineEnd, to_client: &mut Output) {
+        self.side.go_on(Place::Holding);
+        self.reply_unfinished = !end.ends_reply;
+        if end.removed.is_some() {
+            self.owed.pop();
+        }
+        self.settle(to_client);
+    }
+
+    /// How many octets go to the client when a client octet puts a kind on the queue. Behind
+    /// others it changes nothing at the head, and the queue is settled.
+    pub fn due(&self, kind: Owed) -> usize {
+        match kind {
+            _ if !self.owed.is_empty() => 0,
+            Owed::Own(answer) if !self.answers_wait() => answer.line().len(),
+            Owed::Auth => self.side.held().len(),
+            _ => 0,
+        }
+    }
+
+    /// Puts a kind on the queue, and what is due goes to the client.
+    pub fn owe(&mut self, kind: Owed, to_client: &mut Output) {
+        self.owed.push(kind);
+        self.settle(to_client);
+    }
+
+    /// "After each octet, the gateway's own answers at the head of the queue are written in
+    /// order." "When AUTH reaches the head, held server octets pass and all later ones pass at
+    /// once": this waits for no reply to end. AUTH stays at the head, and nothing comes after it.
+    fn settle(&mut self, to_client: &mut Output) {
+        while let Some(Owed::Own(answer)) = self.owed.head() {
+            if self.answers_wait() {
+                return;
+            }
+            to_client.write(answer.line());
+            self.owed.pop();
+        }
+        if self.owed.head() == Some(Owed::Auth) && self.side.place != Place::Ended {
+            to_client.write(self.side.held());
+            self.side.go_on(Place::PassingAtOnce);
+        }
+    }
+
+    /// "Unless a reply is unfinished, a server line is flowing, or the server direction has
+    /// ended." Held octets do not keep own answers back.
+    fn answers_wait(&self) -> bool {
+        self.reply_unfinished || matches!(self.side.place, Place::Flowing(_) | Place::Ended)
+    }
+}
+
+/// "First digit 2 to 5 also removes the first owed kind, unless none is owed or it is the
+/// gateway's own answer." Where a line ends a reply, nothing keeps back the own answers that are
+/// then first.
+fn line_end(owed: &Queue, code: Option<Code>) -> LineEnd {
+    let ends_reply = code.is_some();
+    let removed = match owed.head() {
+        Some(Owed::Own(_)) => None,
+        head => head.filter(|_| code.is_some_and(Code::is_final)),
+    };
+    let answers = if ends_reply {
+        owed.own_answers(usize::from(removed.is_some()))
+    } else {
+        0
+    };
+    LineEnd {
+        ends_reply,
+        removed,
+        answers,
+    }
+}
