@@ -31,6 +31,11 @@ impl Seen {
         }
     }
 
+    /// Whether another gateway may have done the same: a fault is none that two may share.
+    fn agrees(&self, other: &Seen) -> bool {
+        self == other && self.fault.is_none()
+    }
+
     /// The result in words, on lines of their own.
     pub fn text(&self) -> String {
         let mut text = format!("    answer {}, taken {}\n", self.answer, self.taken);
@@ -60,13 +65,13 @@ pub struct Difference {
 pub fn difference<A: Gateway, B: Gateway>(session: &Session) -> Option<Difference> {
     let (mut one, ours) = A::setup(&session.setup);
     let (mut other, theirs) = B::setup(&session.setup);
-    if ours != theirs {
+    if !ours.agrees(&theirs) {
         let call = 0;
         return Some(Difference { call, ours, theirs });
     }
     for (index, call) in session.calls.iter().enumerate() {
         let (ours, theirs) = (one.call(call), other.call(call));
-        if ours != theirs {
+        if !ours.agrees(&theirs) {
             let call = index + 1;
             return Some(Difference { call, ours, theirs });
         }
@@ -319,5 +324,15 @@ mod tests {
         assert!(fault(|to_server, _| to_server[1] ^= 1).is_some());
         assert!(fault(|_, to_client| to_client[0] ^= 1).is_some());
         assert!(fault(|_, to_client| to_client[FULL_ROOM - 1] ^= 1).is_some());
+    }
+
+    /// Two gateways with the same fault do not agree.
+    #[test]
+    fn a_fault_is_a_difference() {
+        let sound = Seen::of_setup(0, [0, 0], None);
+        let faulty = Seen::of_setup(0, [0, 0], Some("a fault"));
+        assert!(sound.agrees(&sound.clone()));
+        assert!(!faulty.agrees(&faulty.clone()));
+        assert!(!sound.agrees(&faulty));
     }
 }
