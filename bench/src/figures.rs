@@ -1,77 +1,97 @@
-//! Times, and the table of them.
+//! The tables, in Markdown.
 
-use std::time::{Duration, Instant};
+use crate::timing::Times;
+use crate::workloads::Workload;
 
-use crate::gateways::{run, Gateway, Ours, Reference};
-use crate::traffic::Traffic;
-
-/// A measured run lasts at least this long.
-const LEAST: Duration = Duration::from_millis(20);
-
-/// The median of the rounds, the least and the most, in nanoseconds per octet that arrived.
-pub struct Figure {
-    median: f64,
-    least: f64,
-    most: f64,
-}
-
-impl Figure {
-    fn of(mut rounds: Vec<f64>) -> Figure {
-        rounds.sort_by(f64::total_cmp);
-        Figure {
-            median: rounds[rounds.len() / 2],
-            least: rounds[0],
-            most: rounds[rounds.len() - 1],
+/// A whole number with commas at the thousands.
+fn whole(value: f64) -> String {
+    let digits = format!("{value:.0}");
+    let mut text = String::new();
+    for (place, digit) in digits.chars().enumerate() {
+        if place > 0 && (digits.len() - place) % 3 == 0 {
+            text.push(',');
         }
+        text.push(digit);
     }
-
-    fn text(&self) -> String {
-        format!("{:.2} ({:.2} to {:.2})", self.median, self.least, self.most)
-    }
+    text
 }
 
-/// How often the traffic has to run to last long enough. This warms everything up, too.
-fn times(gateway: &mut impl Gateway, traffic: &Traffic) -> usize {
-    let mut times = 1;
-    loop {
-        let start = Instant::now();
-        run(gateway, traffic, times);
-        if start.elapsed() >= LEAST {
-            return times;
-        }
-        times *= 2;
+/// A number to two digits at least.
+fn number(value: f64) -> String {
+    if value < 0.995 {
+        format!("{value:.2}")
+    } else if value < 9.95 {
+        format!("{value:.1}")
+    } else {
+        whole(value)
     }
 }
 
-fn round(gateway: &mut impl Gateway, traffic: &Traffic, times: usize) -> f64 {
-    let start = Instant::now();
-    run(gateway, traffic, times);
-    start.elapsed().as_nanos() as f64 / (times * traffic.octets()) as f64
-}
-
-/// Ours, the reference, ours and so on, so that whatever else the machine does falls on both.
-fn measure(traffic: &Traffic, rounds: usize) -> [Figure; 2] {
-    let (mut ours, mut reference) = (Ours::new(), Reference::new());
-    let our_times = times(&mut ours, traffic);
-    let reference_times = times(&mut reference, traffic);
-    let mut figures = [Vec::new(), Vec::new()];
-    for _ in 0..rounds {
-        figures[0].push(round(&mut ours, traffic, our_times));
-        figures[1].push(round(&mut reference, traffic, reference_times));
+/// How often the second fits into the first: to two places where the two are near each other.
+fn ratio(ours: f64, reference: f64) -> String {
+    let ratio = ours / reference;
+    if ratio < 9.995 {
+        format!("{ratio:.2}")
+    } else {
+        whole(ratio)
     }
-    figures.map(Figure::of)
 }
 
-pub fn heading() -> String {
-    let names = ["traffic", "octets", "ours, ns/octet", "reference, ns/octet"];
-    let names = names.join(" | ");
-    format!("| {names} | reference / ours |\n|---|---:|---:|---:|---:|")
+fn row(cells: &[String]) -> String {
+    format!("| {} |\n", cells.join(" | "))
 }
 
-pub fn row(traffic: &Traffic, rounds: usize) -> String {
-    let [ours, reference] = measure(traffic, rounds);
-    let (name, octets) = (traffic.name, traffic.octets());
-    let ratio = reference.median / ours.median;
-    let (ours, reference) = (ours.text(), reference.text());
-    format!("| {name} | {octets} | {ours} | {reference} | {ratio:.1} |")
+/// A heading whose first column is text and whose others are numbers.
+fn heading(names: &[&str]) -> String {
+    let names: Vec<String> = names.iter().map(|name| name.to_string()).collect();
+    format!("{}|---|{}\n", row(&names), "---:|".repeat(names.len() - 1))
+}
+
+pub fn times_heading() -> String {
+    heading(&[
+        "workload",
+        "octets a call",
+        "ours, ns a call",
+        "reference, ns a call",
+        "ours / reference",
+        "memcpy, ns a call",
+        "ours, ns an octet",
+        "reference, ns an octet",
+    ])
+}
+
+pub fn times_row(workload: &Workload, times: &Times) -> String {
+    let octets = workload.octets() as f64 / workload.calls() as f64;
+    row(&[
+        workload.name.to_string(),
+        whole(octets),
+        number(times.ours),
+        number(times.reference),
+        ratio(times.ours, times.reference),
+        number(times.memcpy),
+        number(times.ours / octets),
+        number(times.reference / octets),
+    ])
+}
+
+#[cfg(test)]
+mod tests {
+    use super::*;
+
+    #[test]
+    fn numbers_have_the_digits_that_they_are_worth() {
+        let values = [0.0312, 0.999, 1.04, 9.96, 42.4, 999.9, 12345.6, 1234567.0];
+        let texts = [
+            "0.03",
+            "1.0",
+            "1.0",
+            "10",
+            "42",
+            "1,000",
+            "12,346",
+            "1,234,567",
+        ];
+        assert_eq!(values.map(number), texts);
+        assert_eq!([ratio(21.0, 20.0), ratio(900.0, 7.0)], ["1.05", "129"]);
+    }
 }

@@ -1,9 +1,8 @@
-//! The two gateways, each with its own way to hand out what it writes: ours into lent buffers,
-//! the reference in vectors of its own.
+//! What is measured: the proved gateway, the reference, and plain copying as the least that any
+//! gateway could cost. All three are called alike and write into the same lent buffers.
 
-use std::hint::black_box;
-
-use crate::traffic::Traffic;
+pub const CLIENT: u8 = 0;
+pub const SERVER: u8 = 1;
 
 const CLIENT_ADDRESS: [u8; 16] = [
     0x20, 0x01, 0x0d, 0xb8, 0, 2, 0, 0, 0, 0, 0, 0, 0, 0, 0, 0x31,
@@ -12,96 +11,112 @@ const MAPPED_ADDRESS: [u8; 4] = [192, 0, 2, 31];
 /// EPSV on, EPRT supported and on.
 const FLAGS: u8 = 7;
 
+/// The octets of each lent buffer: the longest arrival passes whole.
 pub const ROOM: usize = 16384;
 
-pub trait Gateway {
-    fn fresh(&mut self);
-
-    /// Takes all octets of an arrival and hands what it writes to each side to `sink`.
-    fn arrive(&mut self, direction: u8, octets: &[u8], sink: &mut impl FnMut(&[u8], &[u8]));
+/// What a call answers, and its counts of octets.
+#[derive(Clone, Copy, Debug, PartialEq, Eq)]
+pub struct Called {
+    pub answer: u8,
+    pub taken: usize,
+    pub to_server: usize,
+    pub to_client: usize,
 }
 
-pub struct Ours {
-    session: fashlemor::Session,
-    to_server: Vec<u8>,
-    to_client: Vec<u8>,
+/// The two lent buffers. Nothing is cleared between calls, since no gateway asks for that.
+pub struct Buffers {
+    pub to_server: Vec<u8>,
+    pub to_client: Vec<u8>,
 }
 
-impl Ours {
-    pub fn new() -> Ours {
-        Ours {
-            session: fashlemor::Session::setup(&CLIENT_ADDRESS, &MAPPED_ADDRESS, FLAGS).0,
-            to_server: vec![0; ROOM],
-            to_client: vec![0; ROOM],
+impl Buffers {
+    /// Buffers full of an octet, so that their pages are there before anything is timed.
+    pub fn filled(octet: u8) -> Buffers {
+        Buffers {
+            to_server: vec![octet; ROOM],
+            to_client: vec![octet; ROOM],
         }
     }
 }
 
+pub trait Gateway: Clone {
+    /// A fresh session.
+    fn setup() -> Self;
+
+    fn arrive(&mut self, direction: u8, octets: &[u8], buffers: &mut Buffers) -> Called;
+}
+
+/// The proved gateway: the C functions of the static library over the record's octets. The safe
+/// package adds three stores to a call, which set the counts that the library then overwrites.
+#[derive(Clone)]
+pub struct Ours(fashlemor::Session);
+
 impl Gateway for Ours {
-    fn fresh(&mut self) {
-        self.session = fashlemor::Session::setup(&CLIENT_ADDRESS, &MAPPED_ADDRESS, FLAGS).0;
+    fn setup() -> Ours {
+        let (session, answer) = fashlemor::Session::setup(&CLIENT_ADDRESS, &MAPPED_ADDRESS, FLAGS);
+        assert_eq!(answer, fashlemor::DONE);
+        Ours(session)
     }
 
-    fn arrive(&mut self, direction: u8, octets: &[u8], sink: &mut impl FnMut(&[u8], &[u8])) {
-        let (to_server, to_client) = (&mut self.to_server, &mut self.to_client);
-        let called = self.session.arrive(direction, octets, to_server, to_client);
-        assert_eq!(
-            (called.answer, called.taken),
-            (fashlemor::DONE, octets.len())
-        );
-        sink(
-            &to_server[..called.to_server],
-            &to_client[..called.to_client],
-        );
+    fn arrive(&mut self, direction: u8, octets: &[u8], buffers: &mut Buffers) -> Called {
+        let (to_server, to_client) = (&mut buffers.to_server, &mut buffers.to_client);
+        let called = self.0.arrive(direction, octets, to_server, to_client);
+        Called {
+            answer: called.answer,
+            taken: called.taken,
+            to_server: called.to_server,
+            to_client: called.to_client,
+        }
     }
 }
 
+#[derive(Clone)]
 pub struct Reference(reference::Gateway);
 
-impl Reference {
-    pub fn new() -> Reference {
-        Reference(reference::Gateway::setup(CLIENT_ADDRESS, MAPPED_ADDRESS, FLAGS).0)
-    }
-}
-
 impl Gateway for Reference {
-    fn fresh(&mut self) {
-        *self = Reference::new();
+    fn setup() -> Reference {
+        let (gateway, answer) = reference::Gateway::setup(CLIENT_ADDRESS, MAPPED_ADDRESS, FLAGS);
+        assert_eq!(answer, 0);
+        Reference(gateway)
     }
 
-    fn arrive(&mut self, direction: u8, octets: &[u8], sink: &mut impl FnMut(&[u8], &[u8])) {
-        let outcome = self.0.arrive(direction, octets, ROOM, ROOM);
-        assert_eq!((outcome.answer, outcome.taken), (0, octets.len()));
-        sink(&outcome.to_server, &outcome.to_client);
+    // A static library can't be inlined into its host; neither is the reference.
+    #[inline(never)]
+    fn arrive(&mut self, direction: u8, octets: &[u8], buffers: &mut Buffers) -> Called {
+        let (to_server, to_client) = (&mut buffers.to_server, &mut buffers.to_client);
+        let outcome = self.0.arrive(direction, octets, to_server, to_client);
+        Called {
+            answer: outcome.answer,
+            taken: outcome.taken,
+            to_server: outcome.to_server,
+            to_client: outcome.to_client,
+        }
     }
 }
 
-/// All that goes to the server and to the client.
-pub fn written(gateway: &mut impl Gateway, traffic: &Traffic) -> [Vec<u8>; 2] {
-    let mut written = [Vec::new(), Vec::new()];
-    gateway.fresh();
-    for (direction, octets) in &traffic.arrivals {
-        gateway.arrive(*direction, octets, &mut |to_server, to_client| {
-            written[0].extend(to_server);
-            written[1].extend(to_client);
-        });
-    }
-    written
-}
+/// Every octet to the other side, with no session at all: `memcpy`.
+#[derive(Clone)]
+pub struct Copying;
 
-/// Runs the traffic a number of times, a fresh session each time. What is written is looked at by
-/// nobody, but the compiler can't know.
-pub fn run(gateway: &mut impl Gateway, traffic: &Traffic, times: usize) {
-    for _ in 0..times {
-        gateway.fresh();
-        for (direction, octets) in &traffic.arrivals {
-            gateway.arrive(
-                *direction,
-                black_box(octets),
-                &mut |to_server, to_client| {
-                    black_box((to_server, to_client));
-                },
-            );
+impl Gateway for Copying {
+    fn setup() -> Copying {
+        Copying
+    }
+
+    fn arrive(&mut self, direction: u8, octets: &[u8], buffers: &mut Buffers) -> Called {
+        let taken = octets.len();
+        let (to_server, to_client) = if direction == CLIENT {
+            buffers.to_server[..taken].copy_from_slice(octets);
+            (taken, 0)
+        } else {
+            buffers.to_client[..taken].copy_from_slice(octets);
+            (0, taken)
+        };
+        Called {
+            answer: 0,
+            taken,
+            to_server,
+            to_client,
         }
     }
 }

@@ -1,47 +1,61 @@
-//! Measures the proved gateway through its static library against the independent one.
+//! Measures the proved gateway through its static library beside the reference gateway.
 //! docs/BENCHMARKS.md says how to run it and what it measures.
 
-#![forbid(unsafe_code)]
+#![deny(unsafe_code)]
 
+#[allow(unsafe_code)]
+mod clock;
 mod figures;
 mod gateways;
-mod traffic;
+mod play;
+mod report;
+mod timing;
+mod workloads;
 
 use std::process::ExitCode;
 
-use gateways::{written, Ours, Reference, ROOM};
-use traffic::{Traffic, PACKET};
+const ROUNDS: usize = 300;
 
-const ROUNDS: usize = 15;
+const USAGE: &str = "\
+usage: bench [ROUNDS]                   the table of times";
+
+enum Failure {
+    Misused,
+    /// With what went wrong: the gateways differ.
+    Failed(String),
+}
+
+impl From<String> for Failure {
+    fn from(message: String) -> Failure {
+        Failure::Failed(message)
+    }
+}
 
 fn main() -> ExitCode {
     let arguments: Vec<String> = std::env::args().skip(1).collect();
-    let rounds = match &arguments[..] {
-        [] => Some(ROUNDS),
-        [rounds] => rounds.parse().ok().filter(|&rounds| rounds > 0),
-        _ => None,
+    let arguments: Vec<&str> = arguments.iter().map(String::as_str).collect();
+    let (message, status) = match perform(&arguments) {
+        Ok(()) => return ExitCode::SUCCESS,
+        Err(Failure::Failed(message)) => (message, 1),
+        Err(Failure::Misused) => (USAGE.to_string(), 2),
     };
-    let Some(rounds) = rounds else {
-        eprintln!("usage: bench [ROUNDS]");
-        return ExitCode::from(2);
-    };
-    let all = traffic::all();
-    if let Some(traffic) = all.iter().find(|traffic| !same_octets(traffic)) {
-        println!("{}: the gateways write different octets", traffic.name);
-        return ExitCode::from(1);
-    }
-    println!("both gateways write the same octets for all traffic below");
-    println!("buffers of {ROOM} octets, warm, reused; arrivals of at most {PACKET} octets");
-    println!("median (least to most) of {rounds} rounds, ours and the reference in turn\n");
-    println!("{}", figures::heading());
-    for traffic in &all {
-        println!("{}", figures::row(traffic, rounds));
-    }
-    ExitCode::SUCCESS
+    eprintln!("{message}");
+    ExitCode::from(status)
 }
 
-/// Figures of a gateway that writes the wrong octets would say nothing.
-fn same_octets(traffic: &Traffic) -> bool {
-    let ours = written(&mut Ours::new(), traffic);
-    ours == written(&mut Reference::new(), traffic) && !ours[0].is_empty() && !ours[1].is_empty()
+fn perform(arguments: &[&str]) -> Result<(), Failure> {
+    report::times(read_rounds(arguments)?, |part| print!("{part}"))?;
+    Ok(())
+}
+
+fn read(word: &str) -> Result<usize, Failure> {
+    word.parse().map_err(|_| Failure::Misused)
+}
+
+fn read_rounds(words: &[&str]) -> Result<usize, Failure> {
+    match words {
+        [] => Ok(ROUNDS),
+        [word] if *word != "0" => read(word),
+        _ => Err(Failure::Misused),
+    }
 }

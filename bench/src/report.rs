@@ -1,0 +1,40 @@
+//! What the program prints and writes.
+
+use std::fs;
+
+use crate::gateways::{Ours, Reference};
+use crate::workloads::{self, Workload};
+use crate::{figures, play, timing};
+
+/// Figures of a gateway that writes the wrong octets would say nothing, so this comes first.
+pub fn compare(workloads: &[Workload]) -> Result<(), String> {
+    workloads
+        .iter()
+        .try_for_each(play::agree::<Ours, Reference>)
+}
+
+/// The table of times, handed on row by row.
+pub fn times(rounds: usize, mut print: impl FnMut(&str)) -> Result<(), String> {
+    let workloads = workloads::all();
+    compare(&workloads)?;
+    print("Both gateways do and write the same in every call.\n");
+    print(&format!(
+        "Processor time, the least of at most {rounds} rounds, on {}.\n\n",
+        processor()
+    ));
+    print(&figures::times_heading());
+    for workload in &workloads {
+        let times = timing::measure(workload, rounds);
+        print(&figures::times_row(workload, &times));
+    }
+    Ok(())
+}
+
+/// The name of the processor, where the system tells it.
+fn processor() -> String {
+    let about = fs::read_to_string("/proc/cpuinfo").unwrap_or_default();
+    let model = about.lines().find(|line| line.starts_with("model name"));
+    let name = model.and_then(|line| line.split_once(": "));
+    name.map_or("a processor without a name", |(_, name)| name)
+        .to_string()
+}
