@@ -1,5 +1,6 @@
 //! The tables, in Markdown.
 
+use crate::instructions::Instructions;
 use crate::timing::Times;
 use crate::workloads::Workload;
 
@@ -71,6 +72,29 @@ pub fn times_row(workload: &Workload, times: &Times) -> String {
         number(times.memcpy),
         number(times.ours / octets),
         number(times.reference / octets),
+    ])
+}
+
+pub fn instructions_heading() -> String {
+    heading(&[
+        "workload",
+        "ours, instructions a call",
+        "reference, instructions a call",
+        "ours / reference",
+        "ours, instructions an octet",
+        "reference, instructions an octet",
+    ])
+}
+
+pub fn instructions_row(workload: &Workload, counts: &Instructions) -> String {
+    let octets = workload.octets() as f64 / workload.calls() as f64;
+    row(&[
+        workload.name.to_string(),
+        number(counts.ours),
+        number(counts.reference),
+        ratio(counts.ours, counts.reference),
+        number(counts.ours / octets),
+        number(counts.reference / octets),
     ])
 }
 

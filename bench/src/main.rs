@@ -7,6 +7,7 @@
 mod clock;
 mod figures;
 mod gateways;
+mod instructions;
 mod play;
 mod report;
 mod timing;
@@ -17,11 +18,12 @@ use std::process::ExitCode;
 const ROUNDS: usize = 300;
 
 const USAGE: &str = "\
-usage: bench [ROUNDS]                   the table of times";
+usage: bench [ROUNDS]                   the table of times
+       bench --instructions             the table of instructions, by callgrind";
 
 enum Failure {
     Misused,
-    /// With what went wrong: the gateways differ.
+    /// With what went wrong: the gateways differ, or a file can't be written.
     Failed(String),
 }
 
@@ -44,7 +46,15 @@ fn main() -> ExitCode {
 }
 
 fn perform(arguments: &[&str]) -> Result<(), Failure> {
-    report::times(read_rounds(arguments)?, |part| print!("{part}"))?;
+    match arguments {
+        ["--instructions"] => print!("{}", report::instructions()?),
+        // How the instructions are counted: the program runs itself like this.
+        ["--run", gateway, workload, cycles] => {
+            let run = instructions::run(gateway, read(workload)?, read(cycles)?);
+            run.ok_or(Failure::Misused)?;
+        }
+        rounds => report::times(read_rounds(rounds)?, |part| print!("{part}"))?,
+    }
     Ok(())
 }
 

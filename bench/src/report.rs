@@ -4,7 +4,7 @@ use std::fs;
 
 use crate::gateways::{Ours, Reference};
 use crate::workloads::{self, Workload};
-use crate::{figures, play, timing};
+use crate::{figures, instructions, play, timing};
 
 /// Figures of a gateway that writes the wrong octets would say nothing, so this comes first.
 pub fn compare(workloads: &[Workload]) -> Result<(), String> {
@@ -37,4 +37,20 @@ fn processor() -> String {
     let name = model.and_then(|line| line.split_once(": "));
     name.map_or("a processor without a name", |(_, name)| name)
         .to_string()
+}
+
+/// The table of instructions, or a line that says why there is none.
+pub fn instructions() -> Result<String, String> {
+    let workloads = workloads::all();
+    compare(&workloads)?;
+    if !instructions::can_count() {
+        return Ok("Instructions were not counted: there is no valgrind.\n".to_string());
+    }
+    let mut table = figures::instructions_heading();
+    for (number, workload) in workloads.iter().enumerate() {
+        let counts = instructions::count(number, workload)
+            .map_err(|error| format!("{}: {error}", workload.name))?;
+        table += &figures::instructions_row(workload, &counts);
+    }
+    Ok(table)
 }
