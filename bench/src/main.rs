@@ -10,6 +10,7 @@ mod gateways;
 mod instructions;
 mod play;
 mod report;
+mod stack;
 mod timing;
 mod workloads;
 
@@ -19,7 +20,8 @@ const ROUNDS: usize = 300;
 
 const USAGE: &str = "\
 usage: bench [ROUNDS]                   the table of times
-       bench --instructions             the table of instructions, by callgrind";
+       bench --instructions             the table of instructions, by callgrind
+       bench --stack                    the stack that a call needs, by objdump";
 
 enum Failure {
     Misused,
@@ -48,6 +50,7 @@ fn main() -> ExitCode {
 fn perform(arguments: &[&str]) -> Result<(), Failure> {
     match arguments {
         ["--instructions"] => print!("{}", report::instructions()?),
+        ["--stack"] => println!("{}", report::stack()),
         // How the instructions are counted: the program runs itself like this.
         ["--run", gateway, workload, cycles] => {
             let run = instructions::run(gateway, read(workload)?, read(cycles)?);

@@ -4,7 +4,7 @@ use std::fs;
 
 use crate::gateways::{Ours, Reference};
 use crate::workloads::{self, Workload};
-use crate::{figures, instructions, play, timing};
+use crate::{figures, instructions, play, stack, timing};
 
 /// Figures of a gateway that writes the wrong octets would say nothing, so this comes first.
 pub fn compare(workloads: &[Workload]) -> Result<(), String> {
@@ -53,4 +53,12 @@ pub fn instructions() -> Result<String, String> {
         table += &figures::instructions_row(workload, &counts);
     }
     Ok(table)
+}
+
+/// The stack of a call, or why it is not known.
+pub fn stack() -> String {
+    match stack::of_a_call() {
+        Ok(octets) => format!("stack of a call: {octets} octets"),
+        Err(reason) => format!("stack of a call: not known: {reason}"),
+    }
 }
