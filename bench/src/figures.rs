@@ -5,7 +5,7 @@ use crate::timing::Times;
 use crate::workloads::Workload;
 
 /// A whole number with commas at the thousands.
-fn whole(value: f64) -> String {
+pub fn whole(value: f64) -> String {
     let digits = format!("{value:.0}");
     let mut text = String::new();
     for (place, digit) in digits.chars().enumerate() {

@@ -9,11 +9,14 @@ mod figures;
 mod gateways;
 mod instructions;
 mod play;
+mod plot;
 mod report;
 mod stack;
+mod sweep;
 mod timing;
 mod workloads;
 
+use std::path::Path;
 use std::process::ExitCode;
 
 const ROUNDS: usize = 300;
@@ -21,7 +24,8 @@ const ROUNDS: usize = 300;
 const USAGE: &str = "\
 usage: bench [ROUNDS]                   the table of times
        bench --instructions             the table of instructions, by callgrind
-       bench --stack                    the stack that a call needs, by objdump";
+       bench --stack                    the stack that a call needs, by objdump
+       bench --plot FILE.svg [ROUNDS]   the plot of a call's cost by its octets";
 
 enum Failure {
     Misused,
@@ -51,6 +55,7 @@ fn perform(arguments: &[&str]) -> Result<(), Failure> {
     match arguments {
         ["--instructions"] => print!("{}", report::instructions()?),
         ["--stack"] => println!("{}", report::stack()),
+        ["--plot", file, rounds @ ..] => report::plot(Path::new(file), read_rounds(rounds)?)?,
         // How the instructions are counted: the program runs itself like this.
         ["--run", gateway, workload, cycles] => {
             let run = instructions::run(gateway, read(workload)?, read(cycles)?);

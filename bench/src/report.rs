@@ -1,10 +1,13 @@
 //! What the program prints and writes.
 
 use std::fs;
+use std::path::Path;
 
 use crate::gateways::{Ours, Reference};
 use crate::workloads::{self, Workload};
-use crate::{figures, instructions, play, stack, timing};
+use crate::{figures, instructions, play, plot, stack, sweep, timing};
+
+const TITLE: &str = "The cost of a call by the octets that it brings";
 
 /// Figures of a gateway that writes the wrong octets would say nothing, so this comes first.
 pub fn compare(workloads: &[Workload]) -> Result<(), String> {
@@ -61,4 +64,13 @@ pub fn stack() -> String {
         Ok(octets) => format!("stack of a call: {octets} octets"),
         Err(reason) => format!("stack of a call: not known: {reason}"),
     }
+}
+
+pub fn plot(file: &Path, rounds: usize) -> Result<(), String> {
+    let panels = sweep::panels(rounds)?;
+    write(file, &plot::svg(TITLE, &panels))
+}
+
+fn write(file: &Path, text: &str) -> Result<(), String> {
+    fs::write(file, text).map_err(|error| format!("{}: {error}", file.display()))
 }

@@ -11,6 +11,9 @@ use crate::gateways::{CLIENT, SERVER};
 /// The octets of a packet on an Ethernet path.
 const PACKET: usize = 1460;
 
+/// The longest line that is judged whole, LF included: all but its LF are held.
+pub const LONGEST_HELD_LINE: usize = 512;
+
 /// How many sessions take turns where their records have to be cold.
 const MANY_SESSIONS: usize = 100_000;
 
@@ -257,10 +260,20 @@ fn line_that_flows() -> Workload {
 }
 
 /// Arrivals of so many octets after AUTH, one each way.
-fn passing(name: &'static str, octets: usize) -> Workload {
+pub fn passing(name: &'static str, octets: usize) -> Workload {
     let mut workload = Workload::authenticated(name);
     let arrival: Vec<u8> = (0..octets).map(|place| (place * 7 % 251) as u8).collect();
     workload.cycle.sends(CLIENT, &arrival);
     workload.cycle.sends(SERVER, &arrival);
+    workload
+}
+
+/// A line of so many octets, LF included, inside a reply of the server that goes on: all but its
+/// LF are held, and it owes and answers nothing, however short it is.
+pub fn held(name: &'static str, octets: usize) -> Workload {
+    let mut workload = Workload::greeted(name);
+    let mut line = vec![b'x'; octets - 1];
+    line.push(b'\n');
+    workload.cycle.sends(SERVER, &line);
     workload
 }
