@@ -5,6 +5,7 @@
 
 #[allow(unsafe_code)]
 mod clock;
+mod document;
 mod figures;
 mod gateways;
 mod instructions;
@@ -25,7 +26,8 @@ const USAGE: &str = "\
 usage: bench [ROUNDS]                   the table of times
        bench --instructions             the table of instructions, by callgrind
        bench --stack                    the stack that a call needs, by objdump
-       bench --plot FILE.svg [ROUNDS]   the plot of a call's cost by its octets";
+       bench --plot FILE.svg [ROUNDS]   the plot of a call's cost by its octets
+       bench --document FILE [ROUNDS]   all of these: a document's figures, and the plot beside it";
 
 enum Failure {
     Misused,
@@ -56,6 +58,9 @@ fn perform(arguments: &[&str]) -> Result<(), Failure> {
         ["--instructions"] => print!("{}", report::instructions()?),
         ["--stack"] => println!("{}", report::stack()),
         ["--plot", file, rounds @ ..] => report::plot(Path::new(file), read_rounds(rounds)?)?,
+        ["--document", file, rounds @ ..] => {
+            report::document(Path::new(file), read_rounds(rounds)?)?;
+        }
         // How the instructions are counted: the program runs itself like this.
         ["--run", gateway, workload, cycles] => {
             let run = instructions::run(gateway, read(workload)?, read(cycles)?);

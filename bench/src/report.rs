@@ -3,11 +3,15 @@
 use std::fs;
 use std::path::Path;
 
+use crate::document::with_figures;
 use crate::gateways::{Ours, Reference};
 use crate::workloads::{self, Workload};
 use crate::{figures, instructions, play, plot, stack, sweep, timing};
 
 const TITLE: &str = "The cost of a call by the octets that it brings";
+
+/// The plot that stands beside a document.
+const PLOT: &str = "benchmarks.svg";
 
 /// Figures of a gateway that writes the wrong octets would say nothing, so this comes first.
 pub fn compare(workloads: &[Workload]) -> Result<(), String> {
@@ -69,6 +73,20 @@ pub fn stack() -> String {
 pub fn plot(file: &Path, rounds: usize) -> Result<(), String> {
     let panels = sweep::panels(rounds)?;
     write(file, &plot::svg(TITLE, &panels))
+}
+
+/// Puts the figures between the document's marks, and writes the plot beside it.
+pub fn document(file: &Path, rounds: usize) -> Result<(), String> {
+    let name = file.display();
+    let document = fs::read_to_string(file).map_err(|error| format!("{name}: {error}"))?;
+    let unmarked = || format!("{name}: there are no marks for figures");
+    with_figures(&document, "").ok_or_else(unmarked)?;
+    let mut figures = String::new();
+    times(rounds, |part| figures += part)?;
+    figures += &format!("\n{}\n`{}`\n", instructions()?, stack());
+    let document = with_figures(&document, &figures).ok_or_else(unmarked)?;
+    write(file, &document)?;
+    plot(&file.with_file_name(PLOT), rounds)
 }
 
 fn write(file: &Path, text: &str) -> Result<(), String> {
