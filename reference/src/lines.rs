@@ -7,19 +7,23 @@ const BLOCK: usize = 64;
 const WORD: usize = size_of::<u64>();
 
 /// The place of the first LF. Blocks without one are passed over as a whole, which the compiler
-/// does with vectors; the octets behind them are looked at by words. The last block and the last
-/// word reach back over octets that are known to be none.
+/// does with vectors. The last block reaches back over octets that are known to be none.
 pub fn find_lf(octets: &[u8]) -> Option<usize> {
+    let Some(last) = octets.len().checked_sub(BLOCK) else {
+        return find_by_words(octets);
+    };
     let (blocks, _) = octets.as_chunks::<BLOCK>();
     let passed = blocks.iter().take_while(|block| !has_lf(block)).count();
-    if passed == blocks.len() && octets.last_chunk().is_some_and(|last| !has_lf(last)) {
-        return None;
-    }
-    let rest = &octets[BLOCK * passed..];
-    let (words, tail) = rest.as_chunks::<WORD>();
+    let start = last.min(BLOCK * passed);
+    find_by_words(&octets[start..][..BLOCK]).map(|place| start + place)
+}
+
+/// The last word, too, reaches back.
+fn find_by_words(octets: &[u8]) -> Option<usize> {
+    let (words, tail) = octets.as_chunks::<WORD>();
     for (index, word) in words.iter().enumerate() {
         if let Some(place) = lf_in_word(word) {
-            return Some(BLOCK * passed + WORD * index + place);
+            return Some(WORD * index + place);
         }
     }
     match octets.last_chunk() {
@@ -29,7 +33,6 @@ pub fn find_lf(octets: &[u8]) -> Option<usize> {
 }
 
 /// Without a way out in the middle, so that all octets are compared at once.
-#[inline(always)]
 fn has_lf(block: &[u8; BLOCK]) -> bool {
     block
         .iter()
@@ -75,13 +78,14 @@ pub fn all_digits(text: &[u8]) -> bool {
 
 /// The value of 1 to `most_digits` digits, leading zeros among them, if it is at most `largest`.
 pub fn number(text: &[u8], most_digits: usize, largest: u32) -> Option<u32> {
-    if text.is_empty() || text.len() > most_digits || !all_digits(text) {
+    if text.is_empty() || text.len() > most_digits {
         return None;
     }
-    let value = text
-        .iter()
-        .fold(0, |value, digit| value * 10 + u32::from(digit - b'0'));
-    (value <= largest).then_some(value)
+    let value = text.iter().try_fold(0, |value, digit| {
+        let is_digit = digit.is_ascii_digit();
+        is_digit.then(|| value * 10 + u32::from(digit - b'0'))
+    });
+    value.filter(|&value| value <= largest)
 }
 
 /// A number "of 1 to 3 digits, 0 to 255".

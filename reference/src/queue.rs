@@ -76,16 +76,17 @@ impl Queue {
     }
 
     pub fn head(&self) -> Option<Owed> {
-        self.iter().next()
+        self.from(0).next()
     }
 
-    pub fn iter(&self) -> impl Iterator<Item = Owed> + '_ {
-        (0..self.count).map(|index| self.kinds[(self.first + index) % MOST_OWED])
+    /// The kinds behind the first `passed`.
+    fn from(&self, passed: usize) -> impl Iterator<Item = Owed> + '_ {
+        (passed..self.count).map(|index| self.kinds[(self.first + index) % MOST_OWED])
     }
 
     /// Octets of the own answers that stand next to each other behind the first `passed` kinds.
     pub fn own_answers(&self, passed: usize) -> usize {
-        let answers = self.iter().skip(passed).map_while(|kind| match kind {
+        let answers = self.from(passed).map_while(|kind| match kind {
             Owed::Own(answer) => Some(answer.line().len()),
             _ => None,
         });
@@ -108,7 +109,7 @@ impl Queue {
 /// Queues are equal that owe the same, wherever it stands in the ring.
 impl PartialEq for Queue {
     fn eq(&self, other: &Queue) -> bool {
-        self.iter().eq(other.iter())
+        self.from(0).eq(other.from(0))
     }
 }
 

@@ -133,16 +133,18 @@ impl Server {
     /// order." "When AUTH reaches the head, held server octets pass and all later ones pass at
     /// once": this waits for no reply to end. AUTH stays at the head, and nothing comes after it.
     fn settle(&mut self, to_client: &mut Output) {
-        while let Some(Owed::Own(answer)) = self.owed.head() {
-            if self.answers_wait() {
-                return;
+        loop {
+            match self.owed.head() {
+                Some(Owed::Own(answer)) if !self.answers_wait() => {
+                    to_client.write(answer.line());
+                    self.owed.pop();
+                }
+                Some(Owed::Auth) if self.side.place != Place::Ended => {
+                    to_client.write(self.side.held());
+                    return self.side.go_on(Place::PassingAtOnce);
+                }
+                _ => return,
             }
-            to_client.write(answer.line());
-            self.owed.pop();
-        }
-        if self.owed.head() == Some(Owed::Auth) && self.side.place != Place::Ended {
-            to_client.write(self.side.held());
-            self.side.go_on(Place::PassingAtOnce);
         }
     }
 
