@@ -1,14 +1,14 @@
 -- Laws of `run` and `every` at an index, over any test.
-use mathlib.Core.Path.{_≡_, refl, sym, _∙_}
-use mathlib.Core.Bool.{Bool, true, false, _&&_}
+use mathlib.Core.Path.{_≡_, refl, sym, ap, _∙_}
+use mathlib.Core.Bool.{Bool, true, false, _&&_, and-true, and-assoc}
 use mathlib.Core.List.{List, [], _∷_, _++_}
 use Prim.Native.Nat.{ℕ, zero, suc, _+_, _-_, _<_, _≤_}
 use native.Mathlib.Numerals.{add-one}
 use native.Mathlib.Omega.{arith}
 use borrow.Author.Tests.{eq-eqb, ne-eqb}
 use lib.Dec.{eqb, eqb·suc-suc, eqb·zero-suc}
-use lib.ListN.{length, getD, take, drop, length-drop, drop-of-length-le}
-use lib.Seq.{drop-cons, drop-drop}
+use lib.ListN.{length, getD, take, drop, length-drop, take-append-drop, drop-of-length-le}
+use lib.Seq.{drop-cons, drop-drop, length-take-le}
 use Rattle.rules.specs.Octets.{run, front, after, every, choose}
 use Rattle.octets.proofs.Ranges.{and-both}
 
@@ -84,6 +84,45 @@ pub every-append : (p : ℕ → Bool) (s t : List ℕ) → every p s ≡ true �
 unfolding every
 every-append p [] t e f = f
 every-append p (x ∷ s) t e f = rw (and-both (p x) (every p s) e .0) (every-append p s t (and-both (p x) (every p s) e .1) f)
+
+pub every-snoc : (p : ℕ → Bool) (s : List ℕ) (x : ℕ) → every p (s ++ (x ∷ [])) ≡ (every p s && p x)
+unfolding every
+every-snoc p [] x = and-true (p x)
+every-snoc p (y ∷ s) x = ap (λ (b : Bool). p y && b) (every-snoc p s x) ∙ sym (and-assoc (p y) (every p s) (p x))
+
+-- a run goes on behind a text whose octets all pass
+pub run-over : (p : ℕ → Bool) (s t : List ℕ) → every p s ≡ true → run p (s ++ t) ≡ length s + run p t
+unfolding run every choose
+run-over p [] t e = omega arith
+run-over p (x ∷ s) t e =
+    let both = and-both (p x) (every p s) e in
+    let more : run p (s ++ t) ≡ length s + run p t = run-over p s t (both .1) in
+    rw (both .0) (omega arith)
+
+-- the octets of a run pass
+front-by : (p : ℕ → Bool) (x : ℕ) (s : List ℕ) (b : Bool) → p x ≡ b → every p (take (run p s) s) ≡ true
+    → every p (take (choose b (suc (run p s)) 0) (x ∷ s)) ≡ true
+unfolding every choose
+front-by p x s true e h = rw e h
+front-by p x s false e h = refl
+
+pub every-front : (p : ℕ → Bool) (s : List ℕ) → every p (front p s) ≡ true
+unfolding every run front
+every-front p [] = refl
+every-front p (x ∷ s) = front-by p x s (p x) refl (every-front p s)
+
+-- ---- the part of a text from i to e
+
+module _ (s : List ℕ) (i e : ℕ) (h : i ≤ e) where
+  -- with what follows it, it is what stands from i on
+  pub part-rest : drop i s ≡ take (e - i) (drop i s) ++ drop e s
+  part-rest =
+      let to : i + (e - i) ≡ e = omega arith in
+      let behind : drop (e - i) (drop i s) ≡ drop e s = drop-drop (e - i) i s ∙ ap (λ (n : ℕ). drop n s) to in
+      sym (take-append-drop (e - i) (drop i s)) ∙ ap (λ (t : List ℕ). take (e - i) (drop i s) ++ t) behind
+
+  pub part-length : e ≤ length s → length (take (e - i) (drop i s)) ≡ e - i
+  part-length g = length-take-le (e - i) (drop i s) (omega (arith, length-drop i s))
 
 -- ---- a run that starts at a place of a longer text
 
