@@ -19,18 +19,12 @@ use Rattle.kinds.specs.Kinds.{isListed}
 use Rattle.octets.proofs.Ranges.{and-both}
 use Rattle.records.specs.declared.Session.{Session}
 use Rattle.records.specs.Sound.{isHolding, isEnded, soundDirection, sound, directionOf, refusalOf}
-use Rattle.records.proofs.Refusals.{refusal-cases}
+use Rattle.records.proofs.Refusals.{refusal-cases, place-holding}
 use Rattle.answers.specs.Table.{Unknown, Known, SoundDirection, Sound, HasEnded}
 
 -- ---- number 4 in words
 
-place-holding : (p : Place) → isHolding p ≡ true → p ≡ Place.Holding
-place-holding Place.Holding e = refl
-place-holding Place.Flowing e = absurd (true≢false (sym e))
-place-holding Place.Passing e = absurd (true≢false (sym e))
-place-holding Place.Ended e = absurd (true≢false (sym e))
-
-not-holding : (p : Place) → isHolding p ≡ false → p ≢ Place.Holding
+pub not-holding : (p : Place) → isHolding p ≡ false → p ≢ Place.Holding
 not-holding p e q = true≢false (sym (ap isHolding q) ∙ e)
 
 direction-words : (d : Direction) (b : Bool) → isHolding (d .place) ≡ b → (soundHeld b (d .held) ≡ true) ↔ SoundDirection d

@@ -27,15 +27,10 @@ use Rattle.kinds.specs.Kinds.{
   shifted,
 }
 use Rattle.downstream.specs.Downstream.{kindRemoved, headRemoved, lineRemoves}
-use Rattle.queue.proofs.Listed.{Listed, pushed-front, listed-push, shifted-front, listed-leave}
+use Rattle.queue.proofs.Listed.{Listed, pushed-front, listed-push, shifted-queue, listed-leave}
 use Rattle.steps.specs.Steps.{owedThen}
 
 -- ---- lists
-
-map-drop : {A B : Type 0} (f : A → B) (n : ℕ) (l : List A) → map f (drop n l) ≡ drop n (map f l)
-map-drop f zero l = refl
-map-drop f (suc n) [] = refl
-map-drop f (suc n) (x ∷ l) = map-drop f n l
 
 map-snoc : {A B : Type 0} (f : A → B) (l : List A) (x : A) → map f (l ++ (x ∷ [])) ≡ map f l ++ (f x ∷ [])
 map-snoc f [] x = refl
@@ -97,11 +92,9 @@ queue-push {kinds} {owed} {ks} q (Owes.One k) h =
 
 pub queue-leave : {kinds : List ℕ} {owed : ℕ} {ks : List Kind} → Queue kinds owed ks → (m : ℕ)
     → Queue (shifted kinds m owed) (owed - m) (drop m ks)
-unfolding queueOf
 queue-leave {kinds} {owed} {ks} q m =
     record {
-      same = rw (shifted-front kinds m owed (omega (arith, q .array .size, q .array .most)))
-          (map-drop kindOf m (take owed kinds) ∙ ap (λ (l : List Kind). drop m l) (q .same));
+      same = shifted-queue kinds m owed (omega (arith, q .array .size, q .array .most)) ∙ ap (λ (l : List Kind). drop m l) (q .same);
       array = listed-leave (q .array) m;
     }
 

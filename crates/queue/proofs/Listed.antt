@@ -1,8 +1,8 @@
 -- The array of kinds with its count: what is put in and what leaves keeps every kind owed a listed one.
 use mathlib.Core.Path.{_≡_, refl, ap, _∙_}
 use mathlib.Core.Bool.{Bool, true, false}
-use mathlib.Core.List.{List, [], _∷_, _++_}
-use Prim.Native.Nat.{ℕ, _+_, _-_, _≤_, _<_}
+use mathlib.Core.List.{List, [], _∷_, _++_, map}
+use Prim.Native.Nat.{ℕ, zero, suc, _+_, _-_, _≤_, _<_}
 use native.Mathlib.Omega.{arith}
 use native.Mathlib.Numerals.{add-one}
 use lib.ListN.{length, take, drop, length-append, length-set, length-drop}
@@ -13,7 +13,7 @@ use Rattle.rules.specs.declared.OwnAnswer.{OwnAnswer}
 use Rattle.rules.specs.declared.Kind.{Kind}
 use Rattle.octets.proofs.Runs.{every-drop, every-append}
 use Rattle.kinds.specs.declared.Owes.{Owes}
-use Rattle.kinds.specs.Kinds.{pushed, stateCode, answerCode, codeOf, isListed, shifted}
+use Rattle.kinds.specs.Kinds.{pushed, stateCode, answerCode, codeOf, isListed, kindOf, queueOf, shifted}
 
 -- ---- every kind has a listed number
 
@@ -56,6 +56,11 @@ listed-push {kinds} {owed} q k h =
           (every-append isListed (take owed kinds) (codeOf k ∷ []) (q .listed) (rw (code-listed k)));
     }
 
+map-drop : {A B : Type 0} (f : A → B) (n : ℕ) (l : List A) → map f (drop n l) ≡ drop n (map f l)
+map-drop f zero l = refl
+map-drop f (suc n) [] = refl
+map-drop f (suc n) (x ∷ l) = map-drop f n l
+
 -- the first m kinds leave
 module _ (kinds : List ℕ) (m owed : ℕ) (h : owed ≤ length kinds) where
   left-size : length (drop m (take owed kinds)) ≡ owed - m
@@ -65,7 +70,11 @@ module _ (kinds : List ℕ) (m owed : ℕ) (h : owed ≤ length kinds) where
   unfolding shifted
   shifted-front = take-at (drop m (take owed kinds)) (drop (owed - m) kinds) (owed - m) left-size
 
-  length-shifted : length (shifted kinds m owed) ≡ length kinds
+  pub shifted-queue : queueOf (shifted kinds m owed) (owed - m) ≡ drop m (queueOf kinds owed)
+  unfolding queueOf
+  shifted-queue = rw shifted-front (map-drop kindOf m (take owed kinds))
+
+  pub length-shifted : length (shifted kinds m owed) ≡ length kinds
   unfolding shifted
   length-shifted = length-append (drop m (take owed kinds)) (drop (owed - m) kinds) ∙ rw (left-size, length-drop (owed - m) kinds) (omega arith)
 

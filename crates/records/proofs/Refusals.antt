@@ -1,6 +1,6 @@
 -- What refuses a call, test by test, and what holds of a record that is not refused.
 use mathlib.Core.Path.{_≡_, refl, sym, ap, _∙_}
-use mathlib.Core.Bool.{Bool, true, false, _&&_, not}
+use mathlib.Core.Bool.{Bool, true, false, _&&_, not, false≢true}
 use mathlib.Core.Option.{Option, none, some}
 use Prim.Native.Nat.{ℕ, _<_, _≤_}
 use native.Mathlib.Omega.{arith}
@@ -33,6 +33,13 @@ module _ (P : Option Answer → Type 0) where
       by-tests false false e p q r u = q refl refl
       by-tests false true true p q r u = r refl refl refl
       by-tests false true false p q r u = u refl refl refl
+
+-- a place by its test
+pub place-holding : (p : Place) → isHolding p ≡ true → p ≡ Place.Holding
+place-holding Place.Holding e = refl
+place-holding Place.Flowing e = absurd (false≢true e)
+place-holding Place.Passing e = absurd (false≢true e)
+place-holding Place.Ended e = absurd (false≢true e)
 
 -- a direction's place says what it may hold
 pub at-place : (d : Direction) {p : Place} → d .place ≡ p → soundHeld (isHolding p) (d .held) ≡ soundDirection d
