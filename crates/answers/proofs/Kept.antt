@@ -1,5 +1,5 @@
--- No call makes a record that number 4 refuses, and the bounds hold of every octet that an arrival comes to.
-use mathlib.Core.Path.{_≡_, refl, sym, _∙_, subst}
+-- No call makes a record that number 4 refuses, the bounds hold of every octet that an arrival comes to, and nothing is left to settle after it.
+use mathlib.Core.Path.{_≡_, refl, sym, ap, _∙_, subst}
 use mathlib.Core.Bool.{Bool, true, false}
 use mathlib.Core.List.{List, [], _∷_}
 use mathlib.Core.Logic.{inl, inr}
@@ -27,12 +27,14 @@ use Rattle.queue.proofs.Listed.{Listed, listed-push, listed-leave}
 use Rattle.steps.specs.declared.Fixed.{Fixed}
 use Rattle.records.specs.declared.Session.{Session}
 use Rattle.steps.specs.Steps.{State, owedThen, leaving, passesFromNow, isAuthNext, settledState, clientState, clientEffectIn, clientStep, serverState, serverEffectIn, serverStep, octetStep}
-use Rattle.records.specs.Sound.{refusalOf}
+use Rattle.records.specs.Sound.{isHolding, refusalOf}
 use Rattle.steps.specs.Takes.{isPassing}
+use Rattle.steps.specs.Settled.{Settled}
 use Rattle.session.specs.Calls.{stateOf, fixedOf, sessionAfter, Outcome, refused, unlessRefused, outcome, arrived, endStep, endOutcome, ended, freshSession}
 use Rattle.session.specs.Bounds.{Shaped, WritesAtMost}
 use Rattle.steps.proofs.Octets.{length-stored}
 use Rattle.steps.proofs.Turns.{place-owed}
+use Rattle.steps.proofs.Quiet.{settled-then}
 use Rattle.answers.specs.Table.{
   Call,
   Result,
@@ -51,6 +53,7 @@ use Rattle.answers.specs.Table.{
 use Rattle.answers.proofs.Lengths.{judged-most}
 use Rattle.answers.proofs.Bounds.{Small, octet-most}
 use Rattle.answers.proofs.Refusals.{
+  not-holding,
   listed-each,
   each-listed,
   Refusal,
@@ -133,33 +136,53 @@ settled-kept s n h =
       reply = h .reply;
     }
 
-octet-kept : (f : Fixed) (d : Side) (s : State) (x : ℕ) → Kept s → isQueueFull d (isPassing (s .control .client .place)) (s .control .owed) ≡ false
-    → Kept (octetStep f d s x .state)
-unfolding octetStep clientStep clientState clientEffectIn clientEffect serverStep serverState serverEffectIn serverEffect
-octet-kept f client s x h notFull =
+-- the octet's own effect
+client-turned : (f : Fixed) (s : State) (x : ℕ) → Kept s → isQueueFull client (isPassing (s .control .client .place)) (s .control .owed) ≡ false
+    → Kept (clientState s x (clientEffectIn f s x))
+unfolding clientState clientEffectIn clientEffect
+client-turned f s x h notFull =
     let d : Direction = s .control .client in
     let sw : Switches = s .control .switches in
     let l : List ℕ = take (d .held) (s .command) in
     let e : ClientEffect = clientEffectIn f s x in
-    settled-kept (clientState s x e) 0
-    (record {
+    record {
       queue = push-kept (h .queue) (e .owes) (place-owed (f .client) (f .supported) sw (d .place) (d .held) l (eqb x lf) (s .control .owed) (h .queue .most) notFull);
       client = place-sound (f .client) (f .supported) sw (d .place) (d .held) l (eqb x lf) .direction;
       server = h .server;
       command = length-stored (s .command) (d .held) x (e .gives) ∙ h .command;
       reply = h .reply;
-    })
-octet-kept f server s x h notFull =
+    }
+
+server-turned : (s : State) (x : ℕ) → Kept s → Kept (serverState s x (serverEffectIn s x))
+unfolding serverState serverEffectIn serverEffect
+server-turned s x h =
     let d : Direction = s .control .server in
     let e : ServerEffect = serverEffectIn s x in
-    settled-kept (serverState s x e) (e .removes)
-    (record {
+    record {
       queue = h .queue;
       client = h .client;
       server = reply-sound (s .control .unfinished) (headOf (s .kinds) (s .control .owed)) (d .place) (d .held) (s .reply) (eqb x lf) .direction;
       command = h .command;
       reply = length-stored (s .reply) (d .held) x (e .gives) ∙ h .reply;
-    })
+    }
+
+octet-kept : (f : Fixed) (d : Side) (s : State) (x : ℕ) → Kept s → isQueueFull d (isPassing (s .control .client .place)) (s .control .owed) ≡ false
+    → Kept (octetStep f d s x .state)
+unfolding octetStep clientStep serverStep
+octet-kept f client s x h notFull = settled-kept (clientState s x (clientEffectIn f s x)) 0 (client-turned f s x h notFull)
+octet-kept f server s x h notFull = settled-kept (serverState s x (serverEffectIn s x)) (serverEffectIn s x .removes) (server-turned s x h)
+
+-- and leaves nothing to settle
+kept-settles : (s : State) (n : ℕ) → Kept s → Settled (settledState s n)
+kept-settles s n h =
+    settled-then s n (omega (arith, h .queue .size, h .queue .most))
+    (λ e. h .server .none (not-holding (s .control .server .place) (ap isHolding e)))
+
+octet-settles : (f : Fixed) (d : Side) (s : State) (x : ℕ) → Kept s → isQueueFull d (isPassing (s .control .client .place)) (s .control .owed) ≡ false
+    → Settled (octetStep f d s x .state)
+unfolding octetStep clientStep serverStep
+octet-settles f client s x h notFull = kept-settles (clientState s x (clientEffectIn f s x)) 0 (client-turned f s x h notFull)
+octet-settles f server s x h notFull = kept-settles (serverState s x (serverEffectIn s x)) (serverEffectIn s x .removes) (server-turned s x h)
 
 -- ---- every octet of an arrival
 
@@ -205,6 +228,12 @@ module _ (c : Call) (octets : List ℕ) (shape : Shaped (c .session)) where
   each-octet k h t n =
       octet-most (fixedOf (c .session)) (shape .mapped) (shape .octets) (before c octets k .state) (getD octets k 0)
       (small (before c octets k .state) (kept-before k (omega arith) t)) (sideOf (c .direction)) (queue-open c octets k n)
+
+  -- after each of them nothing is left to settle, so that a run can begin behind it
+  pub each-settled : (k : ℕ) → k < length octets → Takes c octets k → (Full c octets k → ⊥) → Settled (next c octets k .state)
+  each-settled k h t n =
+      octet-settles (fixedOf (c .session)) (sideOf (c .direction)) (before c octets k .state) (getD octets k 0) (kept-before k (omega arith) t)
+      (queue-open c octets k n)
 
   -- where 1 is given, exactly 16 are owed
   pub one-sixteen : (k : ℕ) → One c octets k → before c octets k .state .control .owed ≡ mostOwed

@@ -6,3 +6,7 @@ pub mod Settles
 pub mod Turns
 pub mod Octets
 pub mod Takes
+pub mod Quiet
+pub mod Single
+pub mod Runs
+pub mod Parts

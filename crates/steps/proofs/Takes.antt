@@ -21,6 +21,7 @@ use Rattle.steps.specs.declared.Written.{Written}
 use Rattle.steps.specs.Steps.{State, Step, octetStep}
 use Rattle.steps.specs.Takes.{Took, tookNothing, andThen, unlessStopped, stopOf, takes, holdable, tookFrom, Core, sideIf, coreFrom, coreTook, isPassing}
 use Rattle.steps.specs.Core.{Bounded, stepFits, octetFits, octetCore}
+use Rattle.steps.specs.Runs.{prefixed}
 use Rattle.output.proofs.Placing.{placed-fits, length-placed, take-placed, drop-placed, nothing-placed}
 use Rattle.steps.proofs.Stops.{fits-room}
 use Rattle.steps.proofs.Octets.{core-same, core-next}
@@ -40,11 +41,6 @@ unfolding isQueueFull mostOwed
 full-by-count b p owed e q = rw (e, q)
 
 -- ---- one turn of the loop
-
--- what was taken before r: n octets, for which a and b were written
-abbrev prefixed : ℕ → List ℕ → List ℕ → Took → Took
-prefixed n a b r =
-    record { answer = r .answer; taken = n + r .taken; toServer = a ++ r .toServer; toClient = b ++ r .toClient; state = r .state }
 
 prefixed-more : (n : ℕ) (a b : List ℕ) (t : Step) (r : Took)
     → prefixed n a b (andThen t r) ≡ prefixed (n + 1) (a ++ t .toServer) (b ++ t .toClient) r
@@ -120,7 +116,7 @@ front-size : (out : List ℕ) (n : ℕ) → n ≤ length out → n ≡ length (t
 front-size out n h = sym (length-take-le n out h) ∙ sym (ap length (append-nil (take n out)))
 
 -- what stands behind a text just placed
-placed-rest : (out from : List ℕ) (at : ℕ) (t : List ℕ) → at + length t ≤ length out → drop at out ≡ drop at from → drop (at + length t) (placed out at t) ≡ drop (at + length t) from
+pub placed-rest : (out from : List ℕ) (at : ℕ) (t : List ℕ) → at + length t ≤ length out → drop at out ≡ drop at from → drop (at + length t) (placed out at t) ≡ drop (at + length t) from
 placed-rest out from at t h rest =
     let same : at + length t + 0 ≡ at + length t = omega arith in
     sym (ap (λ (n : ℕ). drop n (placed out at t)) same)

@@ -1,4 +1,4 @@
-// The octets of an arrival, one after the other, until one has to wait.
+// The octets of an arrival, one after the other and in runs, until one has to wait.
 ghost use mathlib.Core.Path.{_≡_};
 ghost use Prim.Native.Nat.{_≤_};
 ghost use lib.ListN.{length};
@@ -9,8 +9,10 @@ use places::Direction;
 use places::Place;
 use records::Control;
 use rules::Answer;
+use running::any_run;
 
 mod octet;
+mod running;
 mod settling;
 
 // What a setup fixes: the client's address, its mapped address, and whether EPRT is supported.
@@ -116,7 +118,7 @@ pub fn take(
     )
 }
 
-// The octets one by one, where the counts can be held.
+// One octet and the run behind it, again and again, where the counts can be held.
 fn take_each(
     fixed: Fixed,
     from_client: bool,
@@ -174,6 +176,21 @@ fn take_each(
             };
         }
         i += 1;
+        let run = any_run(
+            from_client,
+            control,
+            kinds,
+            octets,
+            i,
+            command,
+            reply,
+            to_server,
+            to_client,
+            written,
+        );
+        control = run.control;
+        written = run.written;
+        i = run.taken;
     }
     Taken {
         answer: Answer::Done,

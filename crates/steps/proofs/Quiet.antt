@@ -1,0 +1,196 @@
+-- A settled state settles to itself, and what settles is settled then.
+use mathlib.Core.Path.{_≡_, refl, sym, ap, subst, _∙_}
+use mathlib.Core.Bool.{true, false, _||_, false≢true}
+use mathlib.Core.List.{List, [], _∷_, _++_}
+use Prim.Native.Nat.{ℕ, _+_, _-_, _≤_}
+use native.Mathlib.Omega.{arith}
+use lib.ListN.{length, take, drop, take-append-drop}
+use lib.Seq.{drop-drop}
+use Rattle.rules.specs.Octets.{choose}
+use Rattle.rules.specs.Replies.{headAnswers, authAtHead}
+use Rattle.rules.specs.declared.Kind.{Kind}
+use Rattle.octets.proofs.Choices.{by-test, choose-true, choose-false}
+use Rattle.places.specs.declared.Place.{Place}
+use Rattle.places.specs.declared.Direction.{Direction}
+use Rattle.places.specs.Places.{at}
+use Rattle.kinds.specs.Kinds.{queueOf, answersAtHead, shifted}
+use Rattle.queue.proofs.Listed.{shifted-queue}
+use Rattle.steps.specs.declared.settling.Plan.{Plan}
+use Rattle.steps.specs.Core.{Planned}
+use Rattle.steps.specs.Takes.{isPassing}
+use Rattle.steps.specs.Runs.{isFlowing}
+use Rattle.steps.specs.Steps.{State, flowsOrEnded, blocked, owedFrom, leaving, answersText, passesFromNow, isAuthNext, settledState, settledText}
+use Rattle.steps.specs.Settled.{Through, passes, ended, Settled}
+
+-- ---- places by their tests
+
+pub place-flowing : (p : Place) → isFlowing p ≡ true → p ≡ Place.Flowing
+place-flowing Place.Holding e = absurd (false≢true e)
+place-flowing Place.Flowing e = refl
+place-flowing Place.Passing e = absurd (false≢true e)
+place-flowing Place.Ended e = absurd (false≢true e)
+
+pub place-passing : (p : Place) → isPassing p ≡ true → p ≡ Place.Passing
+place-passing Place.Holding e = absurd (false≢true e)
+place-passing Place.Flowing e = absurd (false≢true e)
+place-passing Place.Passing e = refl
+place-passing Place.Ended e = absurd (false≢true e)
+
+-- a direction by its place and count
+pub direction-at : (d : Direction) {p : Place} → d .place ≡ p → d .held ≡ 0 → d ≡ at p 0
+direction-at d e n = λ i. at (e i) (n i)
+
+-- ---- queues
+
+answers-none : (ks : List Kind) → answersAtHead ks ≡ 0 → headAnswers ks ≡ []
+unfolding answersAtHead headAnswers
+answers-none [] e = refl
+answers-none (Kind.Plain ∷ ks) e = refl
+answers-none (Kind.TranslatedEpsv ∷ ks) e = refl
+answers-none (Kind.Own a ∷ ks) e = absurd (omega arith)
+answers-none (Kind.Auth ∷ ks) e = refl
+
+answers-gone : (ks : List Kind) → answersAtHead (drop (answersAtHead ks) ks) ≡ 0
+unfolding answersAtHead
+answers-gone [] = refl
+answers-gone (Kind.Plain ∷ ks) = refl
+answers-gone (Kind.TranslatedEpsv ∷ ks) = refl
+answers-gone (Kind.Own a ∷ ks) = answers-gone ks
+answers-gone (Kind.Auth ∷ ks) = refl
+
+auth-first : (ks : List Kind) → authAtHead ks ≡ true → answersAtHead ks ≡ 0
+unfolding answersAtHead authAtHead
+auth-first [] e = refl
+auth-first (Kind.Plain ∷ ks) e = refl
+auth-first (Kind.TranslatedEpsv ∷ ks) e = refl
+auth-first (Kind.Own a ∷ ks) e = cc
+auth-first (Kind.Auth ∷ ks) e = refl
+
+-- ---- a settled state settles to itself
+
+through-same : (p : Place) (n : ℕ) → Through p n → passesFromNow (at p n) p ≡ at p n
+through-same p n passes = refl
+through-same p n ended = refl
+
+through-none : (p : Place) (n : ℕ) (line : List ℕ) → Through p n → take n line ≡ []
+through-none p n line passes = refl
+through-none p n line ended = refl
+
+module _ (s : State) (settled : Settled s) where
+  none-leaves : leaving s 0 ≡ 0
+  unfolding leaving
+  none-leaves =
+      by-test (λ (m : ℕ). m ≡ 0) (blocked (s .control)) 0 (0 + answersAtHead (owedFrom s 0)) (λ _. refl)
+      (λ e. let none : answersAtHead (owedFrom s 0) ≡ 0 = settled .answers e in omega arith)
+
+  no-text : answersText s 0 ≡ []
+  unfolding answersText
+  no-text =
+      by-test (λ (l : List ℕ). l ≡ []) (blocked (s .control)) [] (headAnswers (owedFrom s 0)) (λ _. refl)
+      (λ e. answers-none (owedFrom s 0) (settled .answers e))
+
+  auth-now : isAuthNext s 0 ≡ true → Through (s .control .server .place) (s .control .server .held)
+  unfolding isAuthNext
+  auth-now e = settled .auth (sym (ap (λ (m : ℕ). authAtHead (owedFrom s m)) none-leaves) ∙ e)
+
+  pub settles-same : settledState s 0 ≡ s
+  unfolding settledState shifted
+  settles-same =
+      let c = s .control in
+      let server : choose (isAuthNext s 0) (passesFromNow (c .server) (c .server .place)) (c .server) ≡ c .server =
+      by-test (λ (d : Direction). d ≡ c .server) (isAuthNext s 0) (passesFromNow (c .server) (c .server .place))
+      (c .server)
+      (λ e. through-same (c .server .place) (c .server .held) (auth-now e)) (λ _. refl) in
+      let owed : c .owed - leaving s 0 ≡ c .owed = omega (arith, none-leaves) in
+      let kinds : shifted (s .kinds) (leaving s 0) (c .owed) ≡ s .kinds =
+      (λ i. drop (none-leaves i) (take (c .owed) (s .kinds)) ++ drop (owed i) (s .kinds))
+      ∙ take-append-drop (c .owed) (s .kinds) in
+      λ i. record {
+        control = record { switches = c .switches; client = c .client; server = server i; owed = owed i; unfinished = c .unfinished };
+        command = s .command;
+        reply = s .reply;
+        kinds = kinds i;
+      }
+
+  pub settles-silent : settledText s 0 ≡ []
+  unfolding settledText
+  settles-silent =
+      let held = take (s .control .server .held) (s .reply) in
+      let behind : choose (isAuthNext s 0) held [] ≡ [] =
+      by-test (λ (l : List ℕ). l ≡ []) (isAuthNext s 0) held []
+      (λ e. through-none (s .control .server .place) (s .control .server .held) (s .reply) (auth-now e)) (λ _. refl) in
+      λ i. no-text i ++ behind i
+
+-- ---- what settles is settled then
+
+passes-through : (p : Place) (n : ℕ) → (p ≡ Place.Ended → n ≡ 0)
+    → Through (passesFromNow (at p n) p .place) (passesFromNow (at p n) p .held)
+passes-through Place.Holding n h = passes
+passes-through Place.Flowing n h = passes
+passes-through Place.Passing n h = passes
+passes-through Place.Ended n h = subst (λ (m : ℕ). Through Place.Ended m) (sym (h refl)) ended
+
+-- of a state whose array has the kinds owed, and that holds nothing of a server that has ended
+module _ (s : State) (n : ℕ) (fits : s .control .owed ≤ length (s .kinds))
+    (none : s .control .server .place ≡ Place.Ended → s .control .server .held ≡ 0) where
+  abbrev left : List Kind
+  left = owedFrom s (leaving s n)
+
+  queue-then : queueOf (settledState s n .kinds) (settledState s n .control .owed) ≡ left
+  unfolding settledState
+  queue-then = shifted-queue (s .kinds) (leaving s n) (s .control .owed) fits
+
+  -- own answers that nothing blocked are gone
+  answers-left : blocked (s .control) ≡ false → answersAtHead left ≡ 0
+  unfolding leaving
+  answers-left e =
+      let r = owedFrom s n in
+      let m : leaving s n ≡ n + answersAtHead r = choose-false n (n + answersAtHead r) e in
+      rw (m, ← drop-drop (answersAtHead r) n (queueOf (s .kinds) (s .control .owed))) (answers-gone r)
+
+  pub settled-then : Settled (settledState s n)
+  unfolding settledState isAuthNext blocked
+  settled-then =
+      let sv = s .control .server in
+      let go : Direction = passesFromNow sv (sv .place) in
+      record {
+        answers = λ e. rw queue-then
+            (by-test (λ (d : Direction). (s .control .unfinished || flowsOrEnded (d .place)) ≡ false
+            → answersAtHead left ≡ 0)
+            (isAuthNext s n) go sv (λ a _. auth-first left a) (λ _ e. answers-left e) e);
+        auth = λ e.
+            let a : isAuthNext s n ≡ true = sym (ap authAtHead queue-then) ∙ e in
+            subst (λ (d : Direction). Through (d .place) (d .held)) (sym (choose-true go sv a))
+            (passes-through (sv .place) (sv .held) none);
+      }
+
+-- ---- what the code's test of a state shows
+
+module _ (s : State) (p : Plan) (planned : Planned p s 0) (stays : p .leaving ≡ 0) where
+  none-left : leaving s 0 ≡ 0
+  none-left = sym (planned .leaving) ∙ stays
+
+  no-answers : blocked (s .control) ≡ false → answersAtHead (queueOf (s .kinds) (s .control .owed)) ≡ 0
+  unfolding leaving
+  no-answers e =
+      let q = queueOf (s .kinds) (s .control .owed) in
+      let all : leaving s 0 ≡ 0 + answersAtHead q = choose-false 0 (0 + answersAtHead q) e in
+      let none = none-left in
+      omega arith
+
+  next-auth : authAtHead (queueOf (s .kinds) (s .control .owed)) ≡ true → p .auth ≡ true
+  unfolding isAuthNext
+  next-auth e = planned .auth ∙ (ap (λ (m : ℕ). authAtHead (owedFrom s m)) none-left ∙ e)
+
+  -- nothing leaves the queue, and AUTH is not first
+  pub quiet-plain : p .auth ≡ false → Settled s
+  quiet-plain never = record { answers = no-answers; auth = λ e. absurd (false≢true (sym never ∙ next-auth e)) }
+
+  -- nothing leaves the queue, and the server passes
+  pub quiet-through : s .control .server .held ≡ 0 → isPassing (s .control .server .place) ≡ true → Settled s
+  quiet-through none pass =
+      record {
+        answers = no-answers;
+        auth = λ _. subst (λ (n : ℕ). Through (s .control .server .place) n) (sym none)
+            (subst (λ (q : Place). Through q 0) (sym (place-passing (s .control .server .place) pass)) passes);
+      }

@@ -1,0 +1,19 @@
+-- A state in which nothing is left to settle: settling it once more would change nothing and write nothing.
+use mathlib.Core.Path.{_≡_}
+use mathlib.Core.Bool.{true, false}
+use Prim.Native.Nat.{ℕ}
+use Rattle.rules.specs.Replies.{authAtHead}
+use Rattle.places.specs.declared.Place.{Place}
+use Rattle.kinds.specs.Kinds.{queueOf, answersAtHead}
+use Rattle.steps.specs.Steps.{State, blocked}
+
+-- the server's octets pass at once, or it has ended, and none is held
+pub data Through : Place → ℕ → Type 0 where
+  passes : Through Place.Passing 0
+  ended : Through Place.Ended 0
+
+-- no own answer waits at the head of the queue unless something blocks it, and AUTH is first only where the server is through
+pub record Settled (s : State) : Type 0 where
+  pub answers : blocked (s .control) ≡ false → answersAtHead (queueOf (s .kinds) (s .control .owed)) ≡ 0
+  pub auth : authAtHead (queueOf (s .kinds) (s .control .owed)) ≡ true
+      → Through (s .control .server .place) (s .control .server .held)
