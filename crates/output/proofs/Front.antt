@@ -5,7 +5,7 @@ use Prim.Native.Nat.{ℕ, _≤_}
 use native.Mathlib.Nat.{zero-add}
 use native.Mathlib.Omega.{arith}
 use lib.ListN.{length, take, drop, replicate, length-replicate, drop-of-length-le}
-use lib.Seq.{length-take-le}
+use lib.Seq.{length-take-le, take-append-seam}
 use borrow.Author.Tests.{le-leb}
 use Rattle.rules.specs.Octets.{choose}
 use Rattle.output.specs.Buffer.{fitsAt, placed, placeAfter}
@@ -18,6 +18,9 @@ module _ (out text : List ℕ) (room : length text ≤ length out) where
   pub front-placed : placed out 0 text ≡ text ++ drop (length text) out
   unfolding placed fitsAt choose
   front-placed = rw (zero-add (length text), le-leb (length text) (length out) room)
+
+  pub front-taken : take (length text) (placed out 0 text) ≡ text
+  front-taken = rw front-placed (take-append-seam text (drop (length text) out))
 
 -- the first n octets of a line, which a put placed there
 module _ (line out : List ℕ) (n : ℕ) (there : n ≤ length line) (room : n ≤ length out) where

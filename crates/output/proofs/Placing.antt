@@ -6,7 +6,7 @@ use Prim.Native.Nat.{ℕ, _+_, _<_, _≤_}
 use native.Mathlib.Nat.{add-assoc, add-zero}
 use native.Mathlib.Omega.{arith}
 use lib.ListN.{length, take, drop, length-append, length-drop, take-append-drop}
-use lib.Seq.{length-take-le, take-at, drop-append-add, drop-drop}
+use lib.Seq.{length-take-le, take-add, take-at, drop-append-add, drop-drop}
 use lib.Dec.{leb}
 use borrow.Author.Tests.{le-leb, lt-leb, leb-true, leb-false, not-true, not-false}
 use Rattle.rules.specs.Octets.{choose}
@@ -54,6 +54,17 @@ placed-after out at a b h =
     let second : at + length a + length b ≤ length (placed out at a) = omega (arith, length-placed out at a first) in
     rw (placed-fits (placed out at a) (at + length a) b second, take-placed out at a first, drop-placed out at a (length b) first, placed-fits out at (a ++ b) h, sum, ← add-assoc at (length a) (length b))
     (simp append-assoc)
+
+-- the next k octets of a text placed after its first i
+pub placed-next : (out : List ℕ) (at : ℕ) (text : List ℕ) (i k : ℕ) → i + k ≤ length text → at + length text ≤ length out
+    → placed (placed out at (take i text)) (at + i) (take k (drop i text)) ≡ placed out at (take (i + k) text)
+placed-next out at text i k there room =
+    let first = length-take-le i text (omega arith) in
+    let both = length-take-le (i + k) text there in
+    let parts = take-add i k text in
+    let fits : at + length (take i text ++ take k (drop i text)) ≤ length out = rw (← parts, both) (omega arith) in
+    let after = placed-after out at (take i text) (take k (drop i text)) fits in
+    rw (parts, ← after, first)
 
 -- the same of the promises of two writers
 pub joined : (out : List ℕ) (at : ℕ) (a b : List ℕ) {after last : List ℕ} {next end : ℕ} → PlacedInRoom out at a next after

@@ -1,10 +1,13 @@
 // Octets and decimal numbers put into a lent buffer, or octets into an array, whole or not at all.
 ghost use mathlib.Core.Path.{_≡_};
-ghost use Prim.Native.Nat.{_+_, _%_, _≤_};
+ghost use Prim.Native.Nat.{min, _+_, _%_, _≤_};
 ghost use lib.Dec.{leb};
 ghost use lib.ListN.{length, replicate};
 ghost use Rattle.rules.specs.Octets.{decimal};
 ghost use Rattle.output.specs.Buffer.{placed, placeAfter};
+
+// The most octets that are moved at once.
+const BLOCK: usize = 1024;
 
 // Whether a buffer of this length has room for n octets from `at` on.
 pub fn has_room(length: usize, at: usize, n: usize) -> bool
@@ -24,12 +27,41 @@ pub fn put(out: &mut [u8], at: usize, src: &[u8]) -> usize
     if !has_room(out.len(), at, src.len()) {
         return at;
     }
+    let mut done = 0;
+    while done < src.len() {
+        let n = block_length(src.len() - done);
+        put_block(out, at + done, &src[done..done + n]);
+        done += n;
+    }
+    at + done
+}
+
+// How many of the octets that are left go in one block.
+fn block_length(left: usize) -> usize
+    ensures { λ r. ⌜ r ≡ min left 1024 ⌝ }
+{
+    if left < BLOCK { left } else { BLOCK }
+}
+
+// Through an array of its own, which lies in neither slice: the compiler then makes one move of the two copies, and no array.
+fn put_block(out: &mut [u8], at: usize, src: &[u8])
+    requires { ⌜ (length (now src) ≤ 1024) × (at + length (now src) ≤ length (now out)) ⌝ }
+    ensures { λ _. ⌜ now (out .exit) ≡ placed (now (out .entry)) at (now (src .entry)) ⌝ }
+{
+    let mut block = [0u8; BLOCK];
+    copy(&mut block, 0, src);
+    copy(out, at, &block[..src.len()]);
+}
+
+fn copy(out: &mut [u8], at: usize, src: &[u8])
+    requires { ⌜ at + length (now src) ≤ length (now out) ⌝ }
+    ensures { λ _. ⌜ now (out .exit) ≡ placed (now (out .entry)) at (now (src .entry)) ⌝ }
+{
     let mut i = 0;
     while i < src.len() {
         out[at + i] = src[i];
         i += 1;
     }
-    at + i
 }
 
 // Sixteen octets as an array; zeros where there are more than sixteen, and behind fewer.

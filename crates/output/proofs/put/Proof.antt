@@ -1,21 +1,21 @@
--- `output::put` meets its contract. The invariant: `out` is what it was with the first i octets of `src` from `at`.
+-- `output::put` meets its contract. The invariant: the octets of `src` that are done are placed from `at` on.
 use mathlib.Core.Path.{_≡_, refl, _∙_}
-use Prim.Native.Nat.{_+_, _≤_, _<_, _-_}
-use native.Mathlib.Numerals.{add-one}
+use Prim.Native.Nat.{_+_, _≤_, _-_}
 use native.Mathlib.Omega.{arith}
 use borrow.Author.Needs.{needs}
-use lib.ListN.{length, length-set}
-use lib.Seq.{paste, paste-zero, paste-suc, take-length}
-use Rattle.output.proofs.Placing.{refused, room, placed-split, after-fits}
+use lib.ListN.{length, take, drop, length-drop}
+use lib.Seq.{take-length, length-take-le}
+use Rattle.output.specs.Buffer.{placed}
+use Rattle.output.proofs.Placing.{refused, room, nothing-placed, placed-next, after-fits}
 use Rattle.output.proofs.put.Statement.{statement}
 use Rattle.output.proofs.put.Tie as tie
 
 abbrev Inv-loop : tie.InvT-loop
-Inv-loop out₀ at src i₀ out i =
-    (out ≡ paste out₀ at src i) × (i ≤ length src) × (length out ≡ length out₀) × (at + length src ≤ length out₀)
+Inv-loop out₀ at src done₀ out done =
+    (out ≡ placed out₀ at (take done src)) × (done ≤ length src) × (length out ≡ length out₀) × (at + length src ≤ length out₀)
 
 abbrev μ-loop : tie.MeasureT-loop
-μ-loop out₀ at src i₀ out i = length src - i
+μ-loop out₀ at src done₀ out done = length src - done
 
 has-room-requires : tie.Need-has-room-requires Inv-loop μ-loop
 has-room-requires c κs = search needs
@@ -28,36 +28,58 @@ returns c =
 loop-holds : tie.Need-loop-holds Inv-loop μ-loop
 loop-holds c =
     let a = c .before .before .before .before .args in (
-      paste-zero (a .out .now) (a .at) (a .src .now),
+      nothing-placed (a .out .now) (a .at) .1,
       omega arith,
       refl,
       room (a .out .now) (a .at) (a .src .now) (c .before .has-room .ensures) refl (c .if1 .left),
     )
 
-shared-slice-read-out : tie.Need-shared-slice-read-out Inv-loop μ-loop
-shared-slice-read-out c = omega arith
+sub-block-length : tie.Need-sub-block-length Inv-loop μ-loop
+sub-block-length c = omega arith
 
-add-out : tie.Need-add-out Inv-loop μ-loop
-add-out c = omega arith
+block-length-requires : tie.Need-block-length-requires Inv-loop μ-loop
+block-length-requires c κs = search needs
 
-slice-write-out : tie.Need-slice-write-out Inv-loop μ-loop
-slice-write-out c = omega arith
+add-put-block : tie.Need-add-put-block Inv-loop μ-loop
+add-put-block c = omega arith
 
-add-i : tie.Need-add-i Inv-loop μ-loop
-add-i c = omega arith
+add-put-block-2 : tie.Need-add-put-block-2 Inv-loop μ-loop
+add-put-block-2 c = omega arith
+
+sub-put-block : tie.Need-sub-put-block Inv-loop μ-loop
+sub-put-block c = omega arith
+
+part-put-block-start : tie.Need-part-put-block-start Inv-loop μ-loop
+part-put-block-start c = omega arith
+
+part-put-block-end : tie.Need-part-put-block-end Inv-loop μ-loop
+part-put-block-end c = omega arith
+
+put-block-requires : tie.Need-put-block-requires Inv-loop μ-loop
+put-block-requires c κs =
+    let src = c .before .before .before .before .before .before .before .before .before .args .src .now in
+    let done = c .before .before .before .before .loop .done in
+    let n = c .before .before .block-length .result in
+    let same : done + n - done ≡ n = omega arith in
+    let size : length (take n (drop done src)) ≡ n = length-take-le n (drop done src) (rw length-drop (omega arith)) in
+    rw (same, size) (omega arith)
+
+add-done : tie.Need-add-done Inv-loop μ-loop
+add-done c = omega arith
 
 loop-less : tie.Need-loop-less Inv-loop μ-loop
 loop-less c = omega arith
 
 loop-again : tie.Need-loop-again Inv-loop μ-loop
 loop-again c =
-    let a = c .before .before .before .before .before .before .before .args in
-    let l = c .before .before .loop in
-    let space : a .at + l .i < length (a .out .now) = omega arith in
-    let more : l .i < length (a .src .now) = omega arith in (
-      rw (l .inv .0, add-one (l .i)) (paste-suc (a .out .now) (a .at) (a .src .now) (l .i) 0 space more),
+    let a = c .before .before .before .before .before .before .before .before .before .before .before .before .args in
+    let l = c .before .before .before .before .before .before .before .loop in
+    let n = c .before .before .before .before .before .block-length .result in
+    let same : l .done + n - l .done ≡ n = omega arith in
+    let there : l .done + n ≤ length (a .src .now) = omega arith in (
+      c .before .before .put-block .ensures ∙ rw (l .inv .0, same) (placed-next (a .out .now) (a .at) (a .src .now) (l .done) n there (l .inv .3)),
+      there,
       omega arith,
-      simp length-set (omega arith),
       l .inv .3,
     )
 
@@ -71,10 +93,9 @@ returns-2 : tie.Need-returns-2 Inv-loop μ-loop
 returns-2 c =
     let a = c .before .before .before .before .before .before .args in
     let l = c .before .loop in
-    let all : l .i ≡ length (a .src .now) = omega arith in
-    let whole = l .inv .3 in (
-      rw (after-fits (a .out .now) (a .at) (a .src .now) whole) (omega arith),
-      l .inv .0 ∙ rw (all, take-length (a .src .now), placed-split (a .out .now) (a .at) (a .src .now) whole),
+    let all : l .done ≡ length (a .src .now) = omega arith in (
+      rw (after-fits (a .out .now) (a .at) (a .src .now) (l .inv .3)) (omega arith),
+      l .inv .0 ∙ rw (all, take-length (a .src .now)),
     )
 
 pub put-spec : {M : Type 1} → statement M
@@ -86,10 +107,15 @@ put-spec =
     has-room-requires
     returns
     loop-holds
-    shared-slice-read-out
-    add-out
-    slice-write-out
-    add-i
+    sub-block-length
+    block-length-requires
+    add-put-block
+    add-put-block-2
+    sub-put-block
+    part-put-block-start
+    part-put-block-end
+    put-block-requires
+    add-done
     loop-less
     loop-again
     add-result
