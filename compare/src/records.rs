@@ -14,7 +14,7 @@ mod layout {
     pub const MARKS: usize = 5;
     pub const CLIENT_PLACE: usize = 5;
     pub const SERVER_PLACE: usize = 6;
-    /// Numbers of four octets, high octet first.
+    /// Numbers of four octets, low octet first.
     pub const OWED: usize = 7;
     pub const CLIENT_HELD: usize = 11;
     pub const SERVER_HELD: usize = 15;
@@ -28,12 +28,12 @@ const MOST_OWED: usize = 16;
 const MOST_HELD: u32 = 511;
 
 fn put(record: &mut [u8], place: usize, number: u32) {
-    record[place..place + 4].copy_from_slice(&number.to_be_bytes());
+    record[place..place + 4].copy_from_slice(&number.to_le_bytes());
 }
 
 fn number(record: &[u8], place: usize) -> u32 {
     let octets = record[place..].first_chunk().expect("a record is longer");
-    u32::from_be_bytes(*octets)
+    u32::from_le_bytes(*octets)
 }
 
 /// The record after some calls of a session.
@@ -232,5 +232,18 @@ mod tests {
             some_call(&mut Random::new(seed), &session).what == What::End
         });
         assert!(ends.count() >= 20);
+    }
+
+    /// A forged number in another order might be refused all the same, so the layout is asked here.
+    #[test]
+    fn numbers_are_where_the_layout_has_them() {
+        let mut record = [0; fashlemor::RECORD];
+        fashlemor::setup(&mut record, &[1; 16], &[1; 4], 7);
+        let line = [b'x'; 300];
+        fashlemor::arrive(&mut record, fashlemor::SERVER, &line, &mut [], &mut []);
+        let counters = layout::COUNTERS.map(|counter| number(&record, counter));
+        assert_eq!(counters, [0, 0, 300, 0]);
+        assert_eq!(number(&record, layout::SERVER_HELD), 300);
+        assert_eq!(number(&record, layout::OWED), 1);
     }
 }

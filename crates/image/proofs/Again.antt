@@ -49,12 +49,12 @@ octet-place (suc (suc zero)) e = refl
 octet-place (suc (suc (suc zero))) e = refl
 octet-place (suc (suc (suc (suc n)))) e = absurd (omega (arith, leb-true (suc (suc (suc (suc n)))) 3 e))
 
-four-list : (n : ℕ) {a b c d : ℕ} → n / 256 / 256 / 256 % 256 ≡ a → n / 256 / 256 % 256 ≡ b → n / 256 % 256 ≡ c → n % 256 ≡ d
+four-list : (n : ℕ) {a b c d : ℕ} → n % 256 ≡ a → n / 256 % 256 ≡ b → n / 65536 % 256 ≡ c → n / 16777216 % 256 ≡ d
     → fourOctets n ≡ a ∷ b ∷ c ∷ d ∷ []
 unfolding fourOctets
 four-list n p q r s = rw (p, q, r, s)
 
-four-same : (a b c d n : ℕ) → a < 256 → b < 256 → c < 256 → d < 256 → n ≡ ((a * 256 + b) * 256 + c) * 256 + d
+four-same : (a b c d n : ℕ) → a < 256 → b < 256 → c < 256 → d < 256 → n ≡ a + b * 256 + c * 65536 + d * 16777216
     → fourOctets n ≡ a ∷ b ∷ c ∷ d ∷ []
 four-same a b c d n ha hb hc hd e = four-list n (omega arith) (omega arith) (omega arith) (omega arith)
 
@@ -94,7 +94,7 @@ module _ (image : List ℕ) (long : imageSize ≤ length image) (octets : (i : �
 
   number-value : (i : ℕ)
       → numberAt image i
-      ≡ ((getD image i 0 * 256 + getD image (suc i) 0) * 256 + getD image (suc (suc i)) 0) * 256 + getD image (suc (suc (suc i))) 0
+      ≡ getD image i 0 + getD image (suc i) 0 * 256 + getD image (suc (suc i)) 0 * 65536 + getD image (suc (suc (suc i))) 0 * 16777216
   unfolding numberAt
   number-value i =
       let one : i + 1 ≡ suc i = omega arith in

@@ -70,15 +70,15 @@ place-back Place.Passing = refl
 place-back Place.Ended = refl
 
 four-back : (n : ℕ) → n < 2 ^ 32
-    → ((n / 256 / 256 / 256 % 256 * 256 + n / 256 / 256 % 256) * 256 + n / 256 % 256) * 256 + n % 256 ≡ n
-four-back n h = omega arith
+    → n % 256 + n / 256 % 256 * 256 + n / 65536 % 256 * 65536 + n / 16777216 % 256 * 16777216 ≡ n
+four-back n h = let fourth : n / 16777216 % 256 ≡ n / 16777216 = omega arith in omega (arith, fourth)
 
 pub capped-same : (n : ℕ) → n < 2 ^ 32 → capped n ≡ n
 unfolding capped choose
 capped-same n h = rw (le-leb n (2 ^ 32 - 1) (omega arith))
 
 capped-back : (n : ℕ) → n < 2 ^ 32
-    → ((capped n / 256 / 256 / 256 % 256 * 256 + capped n / 256 / 256 % 256) * 256 + capped n / 256 % 256) * 256 + capped n % 256 ≡ n
+    → capped n % 256 + capped n / 256 % 256 * 256 + capped n / 65536 % 256 * 65536 + capped n / 16777216 % 256 * 16777216 ≡ n
 capped-back n h = rw (capped-same n h) (four-back n h)
 
 -- the part of n octets behind i others

@@ -30,9 +30,9 @@ placeNumber Place.Flowing = 1
 placeNumber Place.Passing = 2
 placeNumber Place.Ended = 3
 
--- a number of 32 bits in four octets, high octet first
+-- a number of 32 bits in four octets, low octet first
 unfoldable pub fourOctets : ℕ → List ℕ
-fourOctets n = n / 256 / 256 / 256 % 256 ∷ n / 256 / 256 % 256 ∷ n / 256 % 256 ∷ n % 256 ∷ []
+fourOctets n = n % 256 ∷ n / 256 % 256 ∷ n / 65536 % 256 ∷ n / 16777216 % 256 ∷ []
 
 -- a count in 32 bits; a larger one, which number 4 refuses, is the largest, which it refuses too
 unfoldable pub capped : ℕ → ℕ
@@ -74,10 +74,10 @@ placeOf (suc zero) = Place.Flowing
 placeOf (suc (suc zero)) = Place.Passing
 placeOf (suc (suc (suc n))) = Place.Ended
 
--- the number in the four octets at a place, high octet first
+-- the number in the four octets at a place, low octet first
 unfoldable pub numberAt : List ℕ → ℕ → ℕ
 numberAt image i =
-    ((getD image i 0 * 256 + getD image (i + 1) 0) * 256 + getD image (i + 2) 0) * 256 + getD image (i + 3) 0
+    getD image i 0 + getD image (i + 1) 0 * 256 + getD image (i + 2) 0 * 65536 + getD image (i + 3) 0 * 16777216
 
 -- the n octets at a place
 abbrev pub part : List ℕ → ℕ → ℕ → List ℕ

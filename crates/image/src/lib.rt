@@ -99,16 +99,16 @@ fn capped(n: usize) -> u32
     4294967295
 }
 
-// A number in four octets, high octet first.
+// A number in four octets, low octet first.
 fn put_number(out: &mut [u8], at: usize, n: u32) -> usize
     ensures { λ r. ⌜ r ≡ placeAfter (now (out .entry)) at (fourOctets n) ⌝ }
     ensures { λ r. ⌜ now (out .exit) ≡ placed (now (out .entry)) at (fourOctets n) ⌝ }
 {
     let octets = [
-        (n / 256 / 256 / 256 % 256) as u8,
-        (n / 256 / 256 % 256) as u8,
-        (n / 256 % 256) as u8,
         (n % 256) as u8,
+        (n / 256 % 256) as u8,
+        (n / 65536 % 256) as u8,
+        (n / 16777216 % 256) as u8,
     ];
     put(out, at, &octets)
 }
@@ -239,7 +239,7 @@ fn counts_at(image: &[u8], at: usize) -> Counts
     }
 }
 
-// The number in four octets, high octet first.
+// The number in four octets, low octet first, as the one sum that the compiler makes one load of.
 fn number_at(image: &[u8], at: usize) -> u32
     requires { ⌜ at + 4 ≤ length (now image) ⌝ }
     ensures { λ r. ⌜ r ≡ numberAt (now (image .entry)) at ⌝ }
@@ -248,7 +248,7 @@ fn number_at(image: &[u8], at: usize) -> u32
     let second = wide(image[at + 1]);
     let third = wide(image[at + 2]);
     let fourth = wide(image[at + 3]);
-    ((first * 256 + second) * 256 + third) * 256 + fourth
+    first + second * 256 + third * 65536 + fourth * 16777216
 }
 
 fn wide(octet: u8) -> u32

@@ -4,17 +4,17 @@ use borrow.Author.Needs.{needs}
 use Rattle.image.proofs.put_number.Statement.{statement}
 use Rattle.image.proofs.put_number.Tie as tie
 
+cast-t6 : tie.Need-cast-t6
+cast-t6 c = search needs
+
 cast-t9 : tie.Need-cast-t9
 cast-t9 c = search needs
 
-cast-t13 : tie.Need-cast-t13
-cast-t13 c = search needs
+cast-t12 : tie.Need-cast-t12
+cast-t12 c = search needs
 
-cast-t16 : tie.Need-cast-t16
-cast-t16 c = search needs
-
-cast-t18 : tie.Need-cast-t18
-cast-t18 c = search needs
+cast-t15 : tie.Need-cast-t15
+cast-t15 c = search needs
 
 slice-aggregate-put : tie.Need-slice-aggregate-put
 slice-aggregate-put c = search needs
@@ -33,10 +33,10 @@ pub put-number-spec : {M : Type 1} → statement M
 put-number-spec =
     tie.close
     (tie.spec
+    cast-t6
     cast-t9
-    cast-t13
-    cast-t16
-    cast-t18
+    cast-t12
+    cast-t15
     slice-aggregate-put
     put-requires
     same-length
