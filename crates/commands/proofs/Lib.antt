@@ -1,3 +1,4 @@
--- Laws for functions that choose by tests, for the EPSV argument, and for a line by its parts.
+-- Laws for functions that choose by tests, for the EPSV argument, for the word that a content begins with, and for a line by its parts.
 pub mod Digits
+pub mod Begins
 pub mod Words

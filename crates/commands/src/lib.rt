@@ -5,8 +5,9 @@ ghost use Prim.Native.Nat.{_<_};
 ghost use lib.Dec.{eqb};
 ghost use lib.ListN.{length};
 ghost use Rattle.rules.specs.Octets.{choose, every, digit, value};
-ghost use Rattle.rules.specs.Lines.{startsAuth};
+ghost use Rattle.rules.specs.Lines.{word as wordOf, startsAuth};
 ghost use Rattle.rules.specs.Commands.{commandWord, epsvCommand, epsvArgument, eprtCommand, eprtArgument, algsCommand, algsArgument, command as commandOf};
+ghost use Rattle.commands.specs.Plain.{isPlain};
 use rules::AlgsArgument;
 use rules::Command;
 use rules::CommandWord;
@@ -16,7 +17,7 @@ use rules::OwnAnswer;
 use rules::Switches;
 
 // Which of the command words a word is, without regard to letter case.
-pub fn command_word(word: &[u8]) -> CommandWord
+fn command_word(word: &[u8]) -> CommandWord
     ensures { λ r. ⌜ r ≡ commandWord (now (word .entry)) ⌝ }
 {
     if octets::alike(word, b"EPSV") {
@@ -32,6 +33,32 @@ pub fn command_word(word: &[u8]) -> CommandWord
         return CommandWord::Auth;
     }
     CommandWord::Other
+}
+
+// Which command a content begins with. Its first five octets tell: the words looked for have four, and no space.
+pub fn content_word(content: &[u8]) -> CommandWord
+    ensures { λ r. ⌜ r ≡ commandWord (wordOf (now (content .entry))) ⌝ }
+{
+    let n = content.len();
+    if n < 4 {
+        return CommandWord::Other;
+    }
+    if 4 < n {
+        if content[4] != 32 {
+            return CommandWord::Other;
+        }
+    }
+    command_word(&content[..4])
+}
+
+// Whether a line judged whole has none of the words looked for, so that it passes whatever the switches are.
+pub fn is_plain(line: &[u8]) -> bool
+    ensures { λ r. ⌜ r ≡ isPlain (now (line .entry)) ⌝ }
+{
+    match content_word(lines::content(line)) {
+        CommandWord::Other => true,
+        _ => false,
+    }
 }
 
 // What the argument of EPSV asks for.
@@ -139,11 +166,10 @@ pub fn command(line: &[u8], client: [u8; 16], supported: bool, switches: Switche
     ensures { λ r. ⌜ r ≡ commandOf client supported switches (now (line .entry)) ⌝ }
 {
     let content = lines::content(line);
-    let argument = lines::argument(content);
-    match command_word(lines::word(content)) {
-        CommandWord::Epsv => epsv_command(switches.epsv, argument),
-        CommandWord::Eprt => eprt_command(switches.eprt, argument, client),
-        CommandWord::Algs => algs_command(argument, supported, switches),
+    match content_word(content) {
+        CommandWord::Epsv => epsv_command(switches.epsv, lines::argument(content)),
+        CommandWord::Eprt => eprt_command(switches.eprt, lines::argument(content), client),
+        CommandWord::Algs => algs_command(lines::argument(content), supported, switches),
         CommandWord::Auth => Command::Auth,
         CommandWord::Other => Command::Passes,
     }
