@@ -6,7 +6,7 @@ use native.Mathlib.Omega.{arith}
 use borrow.Author.Tests.{eq-eqb, ne-eqb}
 use lib.ListN.{length, getD, take, drop}
 use lib.Seq.{drop-drop}
-use Rattle.rules.specs.Octets.{cr, space, is, isNot, choose, run, front, after, trimEnd}
+use Rattle.rules.specs.Octets.{cr, space, is, isNot, choose, run, after, trimEnd}
 use Rattle.rules.specs.Lines.{content, word, argument}
 
 pub content-empty : (l : List ℕ) → length l ≡ 0 → l ≡ content l
@@ -21,10 +21,6 @@ content-cut l h = rw (eq-eqb _ cr h)
 pub content-whole : (l : List ℕ) → (getD l (length l - 1) 0 ≡ cr → ⊥) → l ≡ content l
 unfolding content choose
 content-whole l h = rw (ne-eqb _ cr h)
-
-pub word-part : (s : List ℕ) (e : ℕ) → e ≡ 0 + run (isNot space) (drop 0 s) → take e s ≡ word s
-unfolding word front
-word-part s e q = let z : e ≡ run (isNot space) s = omega arith in rw z
 
 -- what follows the word from b on, where the word ends at w
 pub argument-text : (s : List ℕ) (w b : ℕ) → w ≡ 0 + run (isNot space) (drop 0 s) → b ≡ w + run (is space) (drop w s) → trimEnd (is space) (drop b s) ≡ argument s

@@ -3,7 +3,7 @@ ghost use mathlib.Core.Path.{_≡_};
 ghost use Prim.Native.Nat.{_+_, _-_, _≤_};
 ghost use lib.ListN.{length, take, drop};
 ghost use Rattle.rules.specs.Octets.{space, is, run, trimEnd};
-ghost use Rattle.rules.specs.Lines.{content as contentOf, word as wordOf, argument as argumentOf};
+ghost use Rattle.rules.specs.Lines.{content as contentOf, argument as argumentOf};
 
 // The line without one CR at its end.
 pub fn content(line: &[u8]) -> &[u8]
@@ -18,14 +18,6 @@ pub fn content(line: &[u8]) -> &[u8]
         return &line[..last];
     }
     line
-}
-
-// The content up to its first space.
-pub fn word(content: &[u8]) -> &[u8]
-    ensures { λ r. ⌜ now r ≡ wordOf (now (content .entry)) ⌝ }
-{
-    let end = octets::find(content, 0, 32);
-    &content[..end]
 }
 
 // What follows the word, without the spaces at both ends.
