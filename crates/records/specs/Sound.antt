@@ -1,5 +1,6 @@
 -- Which records number 4 refuses, and which calls are refused at all.
 use mathlib.Core.Bool.{Bool, true, false}
+use mathlib.Core.List.{List}
 use mathlib.Core.Option.{Option, none, some}
 use Prim.Native.Nat.{ℕ}
 use lib.ListN.{take}
@@ -31,12 +32,13 @@ isEnded Place.Ended = true
 unfoldable pub soundDirection : Direction → Bool
 soundDirection d = soundHeld (isHolding (d .place)) (d .held)
 
--- number 4 is not given
+-- number 4 is not given for a record with these marks, control and kinds
+abbrev pub soundOf : Bool → Control → List ℕ → Bool
+soundOf live c kinds =
+    soundRecord live (c .owed) (every isListed (take (c .owed) kinds)) (soundDirection (c .client)) (soundDirection (c .server))
+
 unfoldable pub sound : Session → Bool
-sound s =
-    let c = s .control in
-    soundRecord (s .live) (c .owed) (every isListed (take (c .owed) (s .kinds))) (soundDirection (c .client))
-    (soundDirection (c .server))
+sound s = soundOf (s .live) (s .control) (s .kinds)
 
 -- the direction of a side
 abbrev pub directionOf : Side → Control → Direction
@@ -44,6 +46,9 @@ directionOf client c = c .client
 directionOf server c = c .server
 
 -- what refuses a call on a direction: "Order: 3, 4, 6"
+abbrev pub refusalOn : Bool → Control → List ℕ → ℕ → Option Answer
+refusalOn live c kinds d = refusal d (soundOf live c kinds) (isEnded (directionOf (sideOf d) c .place))
+
 unfoldable pub refusalOf : Session → ℕ → Option Answer
 refusalOf s d = refusal d (sound s) (isEnded (directionOf (sideOf d) (s .control) .place))
 

@@ -5,7 +5,7 @@ ghost use lib.ListN.{take};
 ghost use Rattle.rules.specs.Octets.{every};
 ghost use Rattle.rules.specs.Answers.{sideOf};
 ghost use Rattle.kinds.specs.Kinds.{isListed};
-ghost use Rattle.records.specs.Sound.{soundDirection, sound as soundIn, isEnded, directionOf, refusalOf, refusalBy};
+ghost use Rattle.records.specs.Sound.{soundDirection, soundOf, isEnded, directionOf, refusalOn, refusalOf, refusalBy};
 use places::Direction;
 use places::Place;
 use rules::Answer;
@@ -74,18 +74,16 @@ fn sound_direction(direction: Direction) -> bool
     }
 }
 
-// The record is none that number 4 refuses.
-fn sound(session: Session) -> bool
-    ensures { λ r. ⌜ r ≡ soundIn session ⌝ }
+// A record of these parts is none that number 4 refuses.
+fn sound(live: bool, control: Control, kinds: [u8; 16]) -> bool
+    ensures { λ r. ⌜ r ≡ soundOf live control kinds ⌝ }
 {
-    let control = session.control;
-    if !session.live {
+    if !live {
         return false;
     }
     if 16 < control.owed {
         return false;
     }
-    let kinds = session.kinds;
     if !kinds_listed(kinds, control.owed) {
         return false;
     }
@@ -119,19 +117,27 @@ fn direction_of(control: Control, number: u8) -> Direction
     control.server
 }
 
-// What refuses a call on the direction of a number: 3, 4, 6, in this order.
-pub fn refusal_of(session: Session, direction: u8) -> Refusal
-    ensures { λ r. ⌜ r ≡ refusalBy (refusalOf session direction) ⌝ }
+// What refuses a call on the direction of a number: 3, 4, 6, in this order. These parts of the record decide.
+pub fn refusal_by(live: bool, control: Control, kinds: [u8; 16], direction: u8) -> Refusal
+    ensures { λ r. ⌜ r ≡ refusalBy (refusalOn live control kinds direction) ⌝ }
 {
     if 2 <= direction {
         return Refusal::By(Answer::UnknownDirection);
     }
-    if !sound(session) {
+    if !sound(live, control, kinds) {
         return Refusal::By(Answer::BadRecord);
     }
-    let control = session.control;
     if has_ended(direction_of(control, direction)) {
         return Refusal::By(Answer::DirectionEnded);
     }
     Refusal::Nothing
+}
+
+// The same of a whole record.
+pub fn refusal_of(session: Session, direction: u8) -> Refusal
+    ensures { λ r. ⌜ r ≡ refusalBy (refusalOf session direction) ⌝ }
+{
+    let control = session.control;
+    let kinds = session.kinds;
+    refusal_by(session.live, control, kinds, direction)
 }

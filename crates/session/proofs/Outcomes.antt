@@ -29,9 +29,16 @@ abbrev pub Promised : Outcome → Called → List ℕ → List ℕ → List ℕ 
 Promised w r out other out′ other′ =
     (r ≡ w .called) × ((out′ ≡ w .toServer ++ drop (r .written .server) out) × (other′ ≡ w .toClient ++ drop (r .written .client) other))
 
+-- the counts after a call, from what is added to each
+pub counts-by : (up down : Counts) (d : Side) (n toServer toClient : ℕ) {here there : ℕ} {u v : Counts} → here ≡ takenFor client d n
+    → there ≡ takenFor server d n → u ≡ counted up here toServer → v ≡ counted down there toClient
+    → (u ≡ counted up (takenFor client d n) toServer) × (v ≡ counted down (takenFor server d n) toClient)
+counts-by up down d n toServer toClient p q u v =
+    (u ∙ ap (λ (m : ℕ). counted up m toServer) p, v ∙ ap (λ (m : ℕ). counted down m toClient) q)
+
 -- the record after a call, from the two counts
-pub advanced : (s : Session) (d : Side) (n toServer toClient : ℕ) (t : State) {here there : ℕ} {up down : Counts}
-    → here ≡ takenFor client d n → there ≡ takenFor server d n → up ≡ counted (s .up) here toServer → down ≡ counted (s .down) there toClient
+pub advanced : (s : Session) (d : Side) (n toServer toClient : ℕ) (t : State) {up down : Counts}
+    → up ≡ counted (s .up) (takenFor client d n) toServer → down ≡ counted (s .down) (takenFor server d n) toClient
     → _≡_ {A = Session}
     (record {
       live = s .live;
@@ -47,7 +54,7 @@ pub advanced : (s : Session) (d : Side) (n toServer toClient : ℕ) (t : State) 
     })
     (sessionAfter s d n toServer toClient t)
 unfolding sessionAfter
-advanced s d n toServer toClient t p q u v = rw (u, v, p, q)
+advanced s d n toServer toClient t u v = rw (u, v)
 
 -- ---- refused
 

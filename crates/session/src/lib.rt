@@ -2,10 +2,11 @@
 ghost use mathlib.Core.Path.{_≡_};
 ghost use mathlib.Core.List.{_++_};
 ghost use lib.Dec.{leb};
-ghost use lib.ListN.{length, drop};
+ghost use lib.ListN.{length, drop, replicate};
 ghost use Prim.Native.Nat.{_≤_};
 ghost use Rattle.rules.specs.Answers.{wrapped, client as clientSide, server as serverSide};
-ghost use Rattle.session.specs.Calls.{prepared, startSession, startControl, deadSession, stateOf, arrived, endStep, endOutcome, ended, refused as refusedOutcome, counted as countedBy, sessionAfter, offset as offsetIn};
+ghost use Rattle.session.specs.Calls.{prepared, startSession, startControl, deadSession, stateOf, arrived, endStep, endOutcome, ended, refused as refusedOutcome, counted as countedBy, takenFor, sessionAfter, offset as offsetIn};
+ghost use Rattle.output.specs.Buffer.{placed};
 ghost use Rattle.steps.specs.Takes.{stateFrom, sideIf};
 use output::put;
 use places::Direction;
@@ -18,6 +19,7 @@ use records::refusal_of;
 use rules::Answer;
 use rules::Switches;
 use steps::Fixed;
+use steps::HELD;
 use steps::Written;
 use steps::take;
 
@@ -33,6 +35,12 @@ pub struct Called {
     pub taken: usize,
     pub written: Written,
     pub session: Session,
+}
+
+// The counts of both directions.
+pub struct BothCounts {
+    pub up: Counts,
+    pub down: Counts,
 }
 
 // A direction's offset, for a direction that there is.
@@ -139,19 +147,21 @@ pub fn arrive(
     };
     let control = session.control;
     let kinds = session.kinds;
-    let mut command = session.command;
-    let mut reply = session.reply;
+    let said = session.command;
+    let answered = session.reply;
+    let mut lines = laid(said, answered);
     let t = take(
         fixed,
         from_client,
         control,
         kinds,
         octets,
-        &mut command,
-        &mut reply,
+        &mut lines,
         to_server,
         to_client,
     );
+    let command = held_line(&lines[..HELD]);
+    let reply = held_line(&lines[HELD..]);
     let then = t.control;
     let left = t.kinds;
     let written = t.written;
@@ -171,6 +181,25 @@ pub fn arrive(
             left,
         ),
     }
+}
+
+// The two held lines behind each other, as `take` has them.
+fn laid(command: [u8; 511], reply: [u8; 511]) -> [u8; 1022]
+    ensures { λ r. ⌜ r ≡ command ++ reply ⌝ }
+{
+    let mut lines = [0u8; 1022];
+    put(&mut lines, 0, &command);
+    put(&mut lines, HELD, &reply);
+    lines
+}
+
+// A line's octets as an array; zeros where there are more than an array has, and behind fewer.
+pub fn held_line(octets: &[u8]) -> [u8; 511]
+    ensures { λ r. ⌜ r ≡ placed (replicate 511 0) 0 (now (octets .entry)) ⌝ }
+{
+    let mut line = [0u8; 511];
+    put(&mut line, 0, octets);
+    line
 }
 
 // A call that is refused: nothing taken, nothing written, the record as it came.
@@ -206,14 +235,9 @@ fn after(
     let mapped = session.mapped;
     let sent = session.up;
     let answered = session.down;
-    let mut from_there = taken;
-    let mut from_here = 0;
-    if from_client {
-        from_there = 0;
-        from_here = taken;
-    }
-    let up = counted(sent, from_here, written.server);
-    let down = counted(answered, from_there, written.client);
+    let counts = counts_then(sent, answered, from_client, taken, written);
+    let up = counts.up;
+    let down = counts.down;
     Session {
         live: session.live,
         client,
@@ -225,6 +249,30 @@ fn after(
         kinds,
         up,
         down,
+    }
+}
+
+// What both directions count after a call on one of them: octets taken count for the direction that they came from.
+pub fn counts_then(
+    up: Counts,
+    down: Counts,
+    from_client: bool,
+    taken: usize,
+    written: Written,
+) -> BothCounts
+    ensures { λ r.
+        let d = sideIf «from_client» in
+        ⌜ (r .up ≡ countedBy up (takenFor clientSide d taken) (written .server)) × (r .down ≡ countedBy down (takenFor serverSide d taken) (written .client)) ⌝ }
+{
+    let mut from_there = taken;
+    let mut from_here = 0;
+    if from_client {
+        from_there = 0;
+        from_here = taken;
+    }
+    BothCounts {
+        up: counted(up, from_here, written.server),
+        down: counted(down, from_there, written.client),
     }
 }
 

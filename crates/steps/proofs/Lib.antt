@@ -5,6 +5,7 @@ pub mod Shifting
 pub mod Settles
 pub mod Turns
 pub mod Octets
+pub mod Halves
 pub mod Takes
 pub mod Quiet
 pub mod Single

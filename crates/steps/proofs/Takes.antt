@@ -5,7 +5,7 @@ use mathlib.Core.List.{List, [], _++_, append-assoc, append-nil}
 use Prim.Native.Nat.{ℕ, suc, _+_, _-_, _<_, _≤_}
 use native.Mathlib.Numerals.{add-one}
 use native.Mathlib.Omega.{arith}
-use lib.Dec.{leb}
+use lib.Dec.{leb, eqb}
 use lib.ListN.{length, take, drop, getD, drop-of-length-le, take-append-drop}
 use lib.Seq.{length-take-le, drop-cons, drop-drop}
 use borrow.Author.Tests.{le-leb, lt-leb, leb-true}
@@ -19,8 +19,8 @@ use Rattle.records.specs.declared.Control.{Control}
 use Rattle.steps.specs.declared.Fixed.{Fixed}
 use Rattle.steps.specs.declared.Written.{Written}
 use Rattle.steps.specs.Steps.{State, Step, octetStep}
-use Rattle.steps.specs.Takes.{Took, tookNothing, andThen, unlessStopped, stopOf, takes, holdable, tookFrom, Core, sideIf, coreFrom, coreTook, isPassing}
-use Rattle.steps.specs.Core.{Bounded, stepFits, octetFits, octetCore}
+use Rattle.steps.specs.Takes.{Took, tookNothing, andThen, unlessStopped, stopOf, takes, holdable, tookIn, Core, Given, stateIn, sideIf, coreFrom, coreTook, isPassing}
+use Rattle.steps.specs.Core.{Bounded, Counted, stepFits, octetFits, octetCore}
 use Rattle.steps.specs.Runs.{prefixed}
 use Rattle.output.proofs.Placing.{placed-fits, length-placed, take-placed, drop-placed, nothing-placed}
 use Rattle.steps.proofs.Stops.{fits-room}
@@ -95,10 +95,6 @@ pub record Going (f : Fixed) (d : Side) (l : List ℕ) (s₀ : State) (from to :
   pub server-size : length (k .serverBuffer) ≡ length from
   pub client-size : length (k .clientBuffer) ≡ length to
   pub bounded : Bounded (k .state .control) (k .written) (k .serverBuffer) (k .clientBuffer)
-
--- what was taken, as the function returns it
-abbrev pub Given : Took → List ℕ → List ℕ → Answer → ℕ → Core → Type 0
-Given r from to answer taken k = ((answer ≡ r .answer) × (taken ≡ r .taken)) × (k ≡ coreTook r from to)
 
 -- what the loop has to show
 abbrev pub Stopped : Fixed → Side → List ℕ → State → List ℕ → List ℕ → Answer → ℕ → Core → Type 0
@@ -225,22 +221,44 @@ module _ (c : Control) where
   pub counts-holdable : c .owed ≤ 16 → c .client .held ≤ 511 → c .server .held ≤ 511 → holdable c ≡ true
   counts-holdable few command reply = sym (holdable-by-reply few command) ∙ le-leb (c .server .held) 511 reply
 
-  pub holdable-counts : holdable c ≡ true → (c .owed ≤ 16) × (c .client .held ≤ 511) × (c .server .held ≤ 511)
+  pub holdable-counts : holdable c ≡ true → Counted c
   unfolding holdable mostOwed judged
   holdable-counts h =
       let a = and-both (leb (c .owed) 16 && leb (c .client .held) 511) (leb (c .server .held) 511) h in
       let b = and-both (leb (c .owed) 16) (leb (c .client .held) 511) (a .0) in
-      (leb-true (c .owed) 16 (b .0), leb-true (c .client .held) 511 (b .1), leb-true (c .server .held) 511 (a .1))
+      record { owed = leb-true (c .owed) 16 (b .0); command = leb-true (c .client .held) 511 (b .1); reply = leb-true (c .server .held) 511 (a .1) }
 
-module _ (f : Fixed) (d : Side) (s : State) (l : List ℕ) where
-  pub took-all : (m n : ℕ) → holdable (s .control) ≡ true → tookFrom f d s l m n ≡ takes f d s l m n
-  unfolding tookFrom choose
-  took-all m n h = rw h
+module _ (f : Fixed) (d : Side) (c : Control) (lines kinds l : List ℕ) where
+  abbrev s : State
+  s = stateIn c lines kinds
 
-  pub took-none : (from to : List ℕ) → holdable (s .control) ≡ false
-      → Given (tookFrom f d s l (length from) (length to)) from to Answer.BadRecord 0 (coreFrom s from to (record { server = 0; client = 0 }))
-  unfolding tookFrom choose coreTook
-  took-none from to h =
+  pub took-all : (m n : ℕ) → holdable c ≡ true → length lines ≡ 1022 → tookIn f d c lines kinds l m n ≡ takes f d s l m n
+  unfolding tookIn choose
+  took-all m n h g = rw (h, g)
+
+  took-nothing : (from to : List ℕ) (r : Took) → r ≡ tookNothing Answer.BadRecord s
+      → Given r from to Answer.BadRecord 0 (coreFrom s from to (record { server = 0; client = 0 }))
+  unfolding coreTook
+  took-nothing from to r e =
       let server = nothing-placed from 0 .1 in
       let client = nothing-placed to 0 .1 in
-      rw h ((refl, refl), λ i. record { state = s; serverBuffer = server i; clientBuffer = client i; written = record { server = 0; client = 0 } })
+      rw e ((refl, refl), λ i. record { state = s; serverBuffer = server i; clientBuffer = client i; written = record { server = 0; client = 0 } })
+
+  -- what the function returns where the counts, or the lines' length, can't be
+  abbrev None : Type 0
+  None = (from to : List ℕ) → Given (tookIn f d c lines kinds l (length from) (length to)) from to Answer.BadRecord 0
+      (coreFrom s from to (record { server = 0; client = 0 }))
+
+  pub took-none : holdable c ≡ false → None
+  unfolding tookIn choose
+  took-none h from to = took-nothing from to _ (rw h)
+
+  by-both : (m n : ℕ) (b : Bool) → eqb (length lines) 1022 ≡ false
+      → choose (b && eqb (length lines) 1022) (takes f d s l m n) (tookNothing Answer.BadRecord s) ≡ tookNothing Answer.BadRecord s
+  unfolding choose
+  by-both m n true e = rw e
+  by-both m n false e = refl
+
+  pub took-other : eqb (length lines) 1022 ≡ false → None
+  unfolding tookIn
+  took-other h from to = took-nothing from to _ (by-both (length from) (length to) (holdable c) h)

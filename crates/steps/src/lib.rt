@@ -1,9 +1,9 @@
 // The octets of an arrival, one after the other and in runs, until one has to wait.
 ghost use mathlib.Core.Path.{_≡_};
-ghost use Prim.Native.Nat.{_≤_};
 ghost use lib.ListN.{length};
 ghost use Rattle.rules.specs.Answers.{isQueueFull};
-ghost use Rattle.steps.specs.Takes.{isPassing as passes, takes, tookFrom, holdable as areHoldable, stateFrom, coreFrom, sideIf, coreTook};
+ghost use Rattle.steps.specs.Takes.{isPassing as passes, takes, tookIn, holdable as areHoldable, stateIn, coreIn, sideIf, Given};
+ghost use Rattle.steps.specs.Core.{Counted};
 use octet::any_octet;
 use places::Direction;
 use places::Place;
@@ -14,6 +14,11 @@ use running::any_run;
 mod octet;
 mod running;
 mod settling;
+
+// The octets of a line that may be held, and of the two lines as they lie behind each other, the client's first.
+pub const HELD: usize = 511;
+
+pub const LINES: usize = 1022;
 
 // What a setup fixes: the client's address, its mapped address, and whether EPRT is supported.
 pub struct Fixed {
@@ -71,39 +76,36 @@ fn holdable(control: Control) -> bool
         return false;
     }
     let client = control.client;
-    if 511 < client.held {
+    if HELD < client.held {
         return false;
     }
     let server = control.server;
-    server.held <= 511
+    server.held <= HELD
 }
 
-// The octets of an arrival, until one has to wait; from counts that no array can hold nothing is taken.
+// The octets of an arrival, until one has to wait; from lines or counts that can't be, nothing is taken.
 pub fn take(
     fixed: Fixed,
     from_client: bool,
     start: Control,
     owed: [u8; 16],
     octets: &[u8],
-    command: &mut [u8; 511],
-    reply: &mut [u8; 511],
+    lines: &mut [u8],
     to_server: &mut [u8],
     to_client: &mut [u8],
 ) -> Taken
-    ensures { λ r. ⌜ (r .answer ≡ tookFrom fixed (sideIf «from_client») (stateFrom start (now (command .entry)) (now (reply .entry)) owed) (now (octets .entry)) (length (now («to_server» .entry))) (length (now («to_client» .entry))) .answer) × (r .taken ≡ tookFrom fixed (sideIf «from_client») (stateFrom start (now (command .entry)) (now (reply .entry)) owed) (now (octets .entry)) (length (now («to_server» .entry))) (length (now («to_client» .entry))) .taken) ⌝ }
-    ensures { λ r. ⌜ coreFrom (stateFrom (r .control) (now (command .exit)) (now (reply .exit)) (r .kinds)) (now («to_server» .exit)) (now («to_client» .exit)) (r .written) ≡ coreTook (tookFrom fixed (sideIf «from_client») (stateFrom start (now (command .entry)) (now (reply .entry)) owed) (now (octets .entry)) (length (now («to_server» .entry))) (length (now («to_client» .entry)))) (now («to_server» .entry)) (now («to_client» .entry)) ⌝ }
+    ensures { λ r.
+        let server = now («to_server» .entry) in
+        let client = now («to_client» .entry) in
+        let t = tookIn fixed (sideIf «from_client») start (now (lines .entry)) owed (now (octets .entry)) (length server) (length client) in
+        let after = coreIn (r .control) (now (lines .exit)) (r .kinds) (now («to_server» .exit)) (now («to_client» .exit)) (r .written) in
+        ⌜ Given t server client (r .answer) (r .taken) after ⌝ }
 {
     if !holdable(start) {
-        return Taken {
-            answer: Answer::BadRecord,
-            taken: 0,
-            control: start,
-            kinds: owed,
-            written: Written {
-                server: 0,
-                client: 0,
-            },
-        };
+        return nothing_taken(start, owed);
+    }
+    if lines.len() != LINES {
+        return nothing_taken(start, owed);
     }
     take_each(
         fixed,
@@ -111,28 +113,47 @@ pub fn take(
         start,
         owed,
         octets,
-        command,
-        reply,
+        lines,
         to_server,
         to_client,
     )
 }
 
-// One octet and the run behind it, again and again, where the counts can be held.
+// What is refused as a record that can't be.
+fn nothing_taken(control: Control, kinds: [u8; 16]) -> Taken
+    ensures { λ r. ⌜ r ≡ record { answer = Answer.BadRecord; taken = 0; control = control; kinds = kinds; written = record { server = 0; client = 0 } } ⌝ }
+{
+    Taken {
+        answer: Answer::BadRecord,
+        taken: 0,
+        control,
+        kinds,
+        written: Written {
+            server: 0,
+            client: 0,
+        },
+    }
+}
+
+// A run and the octet behind it, again and again, where the counts can be held.
 fn take_each(
     fixed: Fixed,
     from_client: bool,
     start: Control,
     owed: [u8; 16],
     octets: &[u8],
-    command: &mut [u8; 511],
-    reply: &mut [u8; 511],
+    lines: &mut [u8],
     to_server: &mut [u8],
     to_client: &mut [u8],
 ) -> Taken
-    requires { ⌜ (start .owed ≤ 16) × (start .client .held ≤ 511) × (start .server .held ≤ 511) ⌝ }
-    ensures { λ r. ⌜ (r .answer ≡ takes fixed (sideIf «from_client») (stateFrom start (now (command .entry)) (now (reply .entry)) owed) (now (octets .entry)) (length (now («to_server» .entry))) (length (now («to_client» .entry))) .answer) × (r .taken ≡ takes fixed (sideIf «from_client») (stateFrom start (now (command .entry)) (now (reply .entry)) owed) (now (octets .entry)) (length (now («to_server» .entry))) (length (now («to_client» .entry))) .taken) ⌝ }
-    ensures { λ r. ⌜ coreFrom (stateFrom (r .control) (now (command .exit)) (now (reply .exit)) (r .kinds)) (now («to_server» .exit)) (now («to_client» .exit)) (r .written) ≡ coreTook (takes fixed (sideIf «from_client») (stateFrom start (now (command .entry)) (now (reply .entry)) owed) (now (octets .entry)) (length (now («to_server» .entry))) (length (now («to_client» .entry)))) (now («to_server» .entry)) (now («to_client» .entry)) ⌝ }
+    requires { ⌜ Counted start ⌝ }
+    requires { ⌜ length (now lines) ≡ 1022 ⌝ }
+    ensures { λ r.
+        let server = now («to_server» .entry) in
+        let client = now («to_client» .entry) in
+        let t = takes fixed (sideIf «from_client») (stateIn start (now (lines .entry)) owed) (now (octets .entry)) (length server) (length client) in
+        let after = coreIn (r .control) (now (lines .exit)) (r .kinds) (now («to_server» .exit)) (now («to_client» .exit)) (r .written) in
+        ⌜ Given t server client (r .answer) (r .taken) after ⌝ }
 {
     let mut control = start;
     let mut kinds = owed;
@@ -142,48 +163,13 @@ fn take_each(
     };
     let mut i = 0;
     while i < octets.len() {
-        if queue_full(from_client, control) {
-            return Taken {
-                answer: Answer::QueueFull,
-                taken: i,
-                control,
-                kinds,
-                written,
-            };
-        }
-        let o = any_octet(
-            fixed,
-            from_client,
-            control,
-            kinds,
-            octets[i],
-            command,
-            reply,
-            to_server,
-            to_client,
-            written,
-        );
-        control = o.control;
-        kinds = o.kinds;
-        written = o.written;
-        if !o.fits {
-            return Taken {
-                answer: Answer::NoRoom,
-                taken: i,
-                control,
-                kinds,
-                written,
-            };
-        }
-        i += 1;
         let run = any_run(
             from_client,
             control,
             kinds,
             octets,
             i,
-            command,
-            reply,
+            lines,
             to_server,
             to_client,
             written,
@@ -191,6 +177,41 @@ fn take_each(
         control = run.control;
         written = run.written;
         i = run.taken;
+        if i < octets.len() {
+            if queue_full(from_client, control) {
+                return Taken {
+                    answer: Answer::QueueFull,
+                    taken: i,
+                    control,
+                    kinds,
+                    written,
+                };
+            }
+            let o = any_octet(
+                fixed,
+                from_client,
+                control,
+                kinds,
+                octets[i],
+                lines,
+                to_server,
+                to_client,
+                written,
+            );
+            control = o.control;
+            kinds = o.kinds;
+            written = o.written;
+            if !o.fits {
+                return Taken {
+                    answer: Answer::NoRoom,
+                    taken: i,
+                    control,
+                    kinds,
+                    written,
+                };
+            }
+            i += 1;
+        }
     }
     Taken {
         answer: Answer::Done,

@@ -12,7 +12,8 @@ ghost use Rattle.records.specs.Sound.{isHolding as holds};
 ghost use Rattle.steps.specs.declared.Fixed.{Fixed};
 ghost use Rattle.steps.specs.Core.{Bounded};
 ghost use Rattle.steps.specs.Runs.{isFlowing as flows, Quiet, Ran, ClientRan, ServerRan};
-ghost use Rattle.steps.specs.Takes.{isPassing as passes, stateFrom, coreFrom, sideIf};
+ghost use Rattle.steps.specs.Takes.{isPassing as passes, coreIn, sideIf};
+use crate::HELD;
 use crate::Written;
 use crate::is_passing;
 use crate::queue_full;
@@ -164,10 +165,11 @@ fn client_hold(
     kinds: [u8; 16],
     octets: &[u8],
     i: usize,
-    command: &mut [u8; 511],
+    command: &mut [u8],
     written: Written,
 ) -> Part
     requires { ⌜ (control .client .place ≡ Place.Holding) × (control .client .held ≤ 511) ⌝ }
+    requires { ⌜ length (now command) ≡ 511 ⌝ }
     requires { ⌜ Quiet control kinds ⌝ }
     requires { ⌜ isQueueFull client (passes (control .client .place)) (control .owed) ≡ false ⌝ }
     requires { ⌜ i ≤ length (now octets) ⌝ }
@@ -208,11 +210,11 @@ fn client_run(
     kinds: [u8; 16],
     octets: &[u8],
     i: usize,
-    command: &mut [u8; 511],
+    command: &mut [u8],
     to_server: &mut [u8],
     written: Written,
 ) -> Part
-    requires { ⌜ control .client .held ≤ 511 ⌝ }
+    requires { ⌜ (control .client .held ≤ 511) × (length (now command) ≡ 511) ⌝ }
     requires { ⌜ isQueueFull client (passes (control .client .place)) (control .owed) ≡ false ⌝ }
     requires { ⌜ (i ≤ length (now octets)) × (written .server ≤ length (now «to_server»)) ⌝ }
     ensures { λ r.
@@ -319,10 +321,11 @@ fn server_hold(
     kinds: [u8; 16],
     octets: &[u8],
     i: usize,
-    reply: &mut [u8; 511],
+    reply: &mut [u8],
     written: Written,
 ) -> Part
     requires { ⌜ (control .server .place ≡ Place.Holding) × (control .server .held ≤ 511) ⌝ }
+    requires { ⌜ length (now reply) ≡ 511 ⌝ }
     requires { ⌜ Quiet control kinds ⌝ }
     requires { ⌜ i ≤ length (now octets) ⌝ }
     ensures { λ r.
@@ -361,11 +364,11 @@ fn server_run(
     kinds: [u8; 16],
     octets: &[u8],
     i: usize,
-    reply: &mut [u8; 511],
+    reply: &mut [u8],
     to_client: &mut [u8],
     written: Written,
 ) -> Part
-    requires { ⌜ control .server .held ≤ 511 ⌝ }
+    requires { ⌜ (control .server .held ≤ 511) × (length (now reply) ≡ 511) ⌝ }
     requires { ⌜ (i ≤ length (now octets)) × (written .client ≤ length (now «to_client»)) ⌝ }
     ensures { λ r.
         let l = now (octets .entry) in
@@ -412,19 +415,16 @@ pub fn any_run(
     kinds: [u8; 16],
     octets: &[u8],
     i: usize,
-    command: &mut [u8; 511],
-    reply: &mut [u8; 511],
+    lines: &mut [u8],
     to_server: &mut [u8],
     to_client: &mut [u8],
     written: Written,
 ) -> Part
     requires { ⌜ Bounded control written (now «to_server») (now «to_client») ⌝ }
-    requires { ⌜ i ≤ length (now octets) ⌝ }
+    requires { ⌜ (i ≤ length (now octets)) × (length (now lines) ≡ 1022) ⌝ }
     ensures { λ r.
-        let s = stateFrom control (now (command .entry)) (now (reply .entry)) kinds in
-        let t = stateFrom (r .control) (now (command .exit)) (now (reply .exit)) kinds in
-        let k = coreFrom s (now («to_server» .entry)) (now («to_client» .entry)) written in
-        let m = coreFrom t (now («to_server» .exit)) (now («to_client» .exit)) (r .written) in
+        let k = coreIn control (now (lines .entry)) kinds (now («to_server» .entry)) (now («to_client» .entry)) written in
+        let m = coreIn (r .control) (now (lines .exit)) kinds (now («to_server» .exit)) (now («to_client» .exit)) (r .written) in
         ⌜ ((fixed : Fixed) → Ran fixed (sideIf «from_client») (now (octets .entry)) k i m (r .taken)) ⌝ }
 {
     if queue_full(from_client, control) {
@@ -435,7 +435,23 @@ pub fn any_run(
         };
     }
     if from_client {
-        return client_run(control, kinds, octets, i, command, to_server, written);
+        return client_run(
+            control,
+            kinds,
+            octets,
+            i,
+            &mut lines[..HELD],
+            to_server,
+            written,
+        );
     }
-    server_run(control, kinds, octets, i, reply, to_client, written)
+    server_run(
+        control,
+        kinds,
+        octets,
+        i,
+        &mut lines[HELD..],
+        to_client,
+        written,
+    )
 }

@@ -1,47 +1,15 @@
--- `records::refusal_of` meets its contract, refusal by refusal.
-use mathlib.Core.Path.{sym, ap, _∙_}
+-- `records::refusal_of` meets its contract: it is what the record's parts say.
 use borrow.Author.Needs.{needs}
-use Rattle.places.specs.declared.Direction.{Direction}
-use Rattle.records.specs.Sound.{isEnded, refusalOf}
-use Rattle.records.proofs.Refusals.{unknown, unsound, over, taken}
+use Rattle.records.specs.Sound.{sound, refusalOf}
 use Rattle.records.proofs.refusal_of.Statement.{statement}
 use Rattle.records.proofs.refusal_of.Tie as tie
 
+refusal-by-requires : tie.Need-refusal-by-requires
+refusal-by-requires c κs = search needs
+
 returns : tie.Need-returns
-unfolding refusalOf
-returns c = unknown (c .before .args .direction) _ _ (c .if1 .taken)
-
-sound-requires : tie.Need-sound-requires
-sound-requires c κs = search needs
-
-returns-2 : tie.Need-returns-2
-unfolding refusalOf
-returns-2 c = unsound _ _ _ (c .before .before .if1 .left) (c .before .sound .ensures) (c .if2 .taken)
-
-direction-of-requires : tie.Need-direction-of-requires
-direction-of-requires c κs = search needs
-
-has-ended-requires : tie.Need-has-ended-requires
-has-ended-requires c κs = search needs
-
-returns-3 : tie.Need-returns-3
-unfolding refusalOf
-returns-3 c = over _ _ _ (c .before .before .before .before .before .before .if1 .left) (c .before .before .before .before .before .sound .ensures) (c .before .before .before .before .if2 .left)
-    (sym (ap (λ (d : Direction). isEnded (d .place)) (c .before .before .direction-of .ensures)) ∙ sym (c .before .has-ended .ensures) ∙ c .if3 .taken)
-
-returns-4 : tie.Need-returns-4
-unfolding refusalOf
-returns-4 c = taken _ _ _ (c .before .before .before .before .before .before .if1 .left) (c .before .before .before .before .before .sound .ensures) (c .before .before .before .before .if2 .left)
-    (sym (ap (λ (d : Direction). isEnded (d .place)) (c .before .before .direction-of .ensures)) ∙ sym (c .before .has-ended .ensures) ∙ c .if3 .left)
+unfolding sound refusalOf
+returns c = c .refusal-by .ensures
 
 pub refusal-of-spec : {M : Type 1} → statement M
-refusal-of-spec =
-    tie.close
-    (tie.spec
-    returns
-    sound-requires
-    returns-2
-    direction-of-requires
-    has-ended-requires
-    returns-3
-    returns-4)
+refusal-of-spec = tie.close (tie.spec refusal-by-requires returns)

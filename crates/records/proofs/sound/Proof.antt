@@ -1,48 +1,42 @@
 -- `records::sound` meets its contract, test by test.
 use borrow.Author.Needs.{needs}
-use Rattle.records.specs.Sound.{sound}
 use Rattle.records.proofs.Refusals.{not-live, too-many, unlisted, client-unsound, by-server}
 use Rattle.records.proofs.sound.Statement.{statement}
 use Rattle.records.proofs.sound.Tie as tie
 
 returns : tie.Need-returns
-unfolding sound
 returns c =
-    let s = c .before .before .before .args .session in
+    let s = c .before .args in
     not-live (s .live) (s .control .owed) _ _ _ (c .if1 .taken)
 
 returns-2 : tie.Need-returns-2
-unfolding sound
 returns-2 c =
-    let s = c .before .before .before .before .before .args .session in
+    let s = c .before .before .before .args in
     too-many (s .live) (s .control .owed) _ _ _ (c .before .before .if1 .left) (c .if2 .taken)
 
 kinds-listed-requires : tie.Need-kinds-listed-requires
 kinds-listed-requires c κs = search needs
 
 returns-3 : tie.Need-returns-3
-unfolding sound
 returns-3 c =
-    let s = c .before .before .before .before .before .before .before .before .args .session in
-    unlisted (s .live) (s .control .owed) _ _ _ (c .before .before .before .before .before .if1 .left) (c .before .before .before .if2 .left) (c .before .kinds-listed .ensures) (c .if3 .taken)
+    let s = c .before .before .before .before .before .args in
+    unlisted (s .live) (s .control .owed) _ _ _ (c .before .before .before .before .if1 .left) (c .before .before .if2 .left) (c .before .kinds-listed .ensures) (c .if3 .taken)
 
 sound-direction-requires : tie.Need-sound-direction-requires
 sound-direction-requires c κs = search needs
 
 returns-4 : tie.Need-returns-4
-unfolding sound
 returns-4 c =
-    let s = c .before .before .before .before .before .before .before .before .before .before .before .args .session in
-    client-unsound (s .live) (s .control .owed) _ _ _ (c .before .before .before .before .before .before .before .before .if1 .left) (c .before .before .before .before .before .before .if2 .left) (c .before .before .before .before .kinds-listed .ensures) (c .before .before .before .if3 .left) (c .before .sound-direction .ensures) (c .if4 .taken)
+    let s = c .before .before .before .before .before .before .before .before .args in
+    client-unsound (s .live) (s .control .owed) _ _ _ (c .before .before .before .before .before .before .before .if1 .left) (c .before .before .before .before .before .if2 .left) (c .before .before .before .before .kinds-listed .ensures) (c .before .before .before .if3 .left) (c .before .sound-direction .ensures) (c .if4 .taken)
 
 sound-direction-requires-2 : tie.Need-sound-direction-requires-2
 sound-direction-requires-2 c κs = search needs
 
 returns-5 : tie.Need-returns-5
-unfolding sound
 returns-5 c =
-    let s = c .before .before .before .before .before .before .before .before .before .before .before .before .before .args .session in
-    by-server (s .live) (s .control .owed) _ _ _ (c .before .before .before .before .before .before .before .before .before .before .if1 .left) (c .before .before .before .before .before .before .before .before .if2 .left) (c .before .before .before .before .before .before .kinds-listed .ensures) (c .before .before .before .before .before .if3 .left) (c .before .before .before .sound-direction .ensures) (c .before .before .if4 .left) (c .sound-direction2 .ensures)
+    let s = c .before .before .before .before .before .before .before .before .before .before .args in
+    by-server (s .live) (s .control .owed) _ _ _ (c .before .before .before .before .before .before .before .before .before .if1 .left) (c .before .before .before .before .before .before .before .if2 .left) (c .before .before .before .before .before .before .kinds-listed .ensures) (c .before .before .before .before .before .if3 .left) (c .before .before .before .sound-direction .ensures) (c .before .before .if4 .left) (c .sound-direction2 .ensures)
 
 pub sound-spec : {M : Type 1} → statement M
 sound-spec =

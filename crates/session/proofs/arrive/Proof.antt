@@ -1,8 +1,13 @@
 -- `session::arrive` meets its contract: a refusal, or what `take` left, whose texts have room.
-use mathlib.Core.Path.{sym, _∙_}
+use mathlib.Core.Path.{_≡_, sym, ap, _∙_}
 use borrow.Author.Needs.{needs}
+use lib.Dec.{eqb}
 use lib.ListN.{length}
-use Rattle.session.specs.Calls.{stateOf, fixedOf, arrived}
+use Rattle.session.specs.Calls.{fixedOf, sessionAfter, arrived}
+use Rattle.steps.specs.Steps.{State}
+use Rattle.steps.specs.Takes.{takes, sideIf}
+use Rattle.steps.proofs.Halves.{command-size}
+use Rattle.session.proofs.Lines.{laid-size, laid-state, lines-back}
 use Rattle.records.proofs.Refusals.{by-nothing, countable}
 use Rattle.steps.proofs.Takes.{took-all, counts-holdable}
 use Rattle.session.proofs.Outcomes.{side-tested, turned-away, arrives}
@@ -27,8 +32,44 @@ returns c =
 enum-told : tie.Need-enum-told
 enum-told c = search needs
 
+laid-requires : tie.Need-laid-requires
+laid-requires c κs = search needs
+
+slice-aggregate-take : tie.Need-slice-aggregate-take
+slice-aggregate-take c = search needs
+
 take-requires : tie.Need-take-requires
 take-requires c κs = search needs
+
+array-share-prefix-lines : tie.Need-array-share-prefix-lines
+array-share-prefix-lines c = search needs
+
+slice-aggregate-held-line : tie.Need-slice-aggregate-held-line
+slice-aggregate-held-line c =
+    let s = c .before .before .before .before .before .before .before .before .before .before .before .before .before .before .before .before .before .before .before .before .before .before .before .args .session in
+    let known = c .before .before .before .before .before .before .before .before .before .before .before .before .before .before .before .before .before .before .before .before .before .before .before .good .0 in
+    let later = known .1 .1 .1 .1 .1 in
+    let t = c .before .before .before .before .before .before .take in
+    let lines = c .before .before .before .before .before .before .before .before .before .before .laid in
+    let command : length (s .command) ≡ 511 = search needs in
+    let reply : length (s .reply) ≡ 511 = search needs in
+    let size = laid-size (s .command) (s .reply) command reply (lines .ensures) in
+    sym (command-size (t .last .1 .1 .1 .1 .1 .0) (t .kept .1 .1 .1 .1 .1 .0 ∙ size))
+
+held-line-requires : tie.Need-held-line-requires
+held-line-requires c κs = search needs
+
+sub-held-line : tie.Need-sub-held-line
+sub-held-line c = search needs
+
+part-held-line-start : tie.Need-part-held-line-start
+part-held-line-start c = search needs
+
+part-held-line-end : tie.Need-part-held-line-end
+part-held-line-end c = search needs
+
+held-line-requires-2 : tie.Need-held-line-requires-2
+held-line-requires-2 c κs = search needs
 
 after-requires : tie.Need-after-requires
 after-requires c κs = search needs
@@ -41,17 +82,31 @@ same-length-2 c = search needs
 
 returns-2 : tie.Need-returns-2
 returns-2 c =
-    let a = c .before .before .before .before .before .before .before .before .before .before .before .before .before .before .before .before .before .before .before .before .before .before .before .before .before .args in
-    let free = by-nothing _ (sym (c .before .before .before .before .before .before .before .before .before .before .before .before .before .before .before .before .before .before .before .before .before .refusal-of .ensures) ∙ c .before .before .before .before .before .before .before .before .before .before .before .before .before .before .before .before .before .before .before .enum-told .given .1) in
-    let t = c .before .before .before .before .before .before .before .before .take in
-    let k = countable (a .session) (a .direction) free in
-    let all = took-all (fixedOf (a .session)) _ (stateOf (a .session)) (a .octets .now) (length (a .to-server .now)) (length (a .to-client .now)) (counts-holdable (a .session .control) (k .owed) (k .command) (k .reply)) in
-    arrives (a .session) (a .direction) (a .octets .now) (a .to-server .now) (a .to-client .now) _ (side-tested (a .direction)) free
+    let a = c .before .before .before .before .before .before .before .before .before .before .before .before .before .before .before .before .before .before .before .before .before .before .before .before .before .before .before .before .before .before .before .args in
+    let s = a .session in
+    let known = c .before .before .before .before .before .before .before .before .before .before .before .before .before .before .before .before .before .before .before .before .before .before .before .before .before .before .before .before .before .before .before .good .0 in
+    let later = known .1 .1 .1 .1 .1 .1 in
+    let reply : length (s .reply) ≡ 511 = search needs in
+    let command : length (s .command) ≡ 511 = search needs in
+    let t = c .before .before .before .before .before .before .before .before .before .before .before .before .before .before .take in
+    let lines = c .before .before .before .before .before .before .before .before .before .before .before .before .before .before .before .before .before .before .laid in
+    let free = by-nothing _ (sym (c .before .before .before .before .before .before .before .before .before .before .before .before .before .before .before .before .before .before .before .before .before .before .before .before .before .before .before .refusal-of .ensures) ∙ c .before .before .before .before .before .before .before .before .before .before .before .before .before .before .before .before .before .before .before .before .before .before .before .before .before .enum-told .given .1) in
+    let k = countable s (a .direction) free in
+    let size = laid-size (s .command) (s .reply) command reply (lines .ensures) in
+    let m = length (a .to-server .now) in
+    let n = length (a .to-client .now) in
+    let side = sideIf (eqb (a .direction) 0) in
+    let all = took-all (fixedOf s) side (s .control) (lines .result) (s .kinds) (a .octets .now) m n (counts-holdable (s .control) (k .owed) (k .command) (k .reply)) size
+    ∙ ap (λ (x : State). takes (fixedOf s) side x (a .octets .now) m n) (laid-state (s .control) (s .command) (s .reply) (s .kinds) command (lines .ensures)) in
+    let after = c .after .ensures
+    ∙ ap (sessionAfter s side (t .result .taken) (t .result .written .server) (t .result .written .client))
+    (lines-back (t .result .control) (t .result .kinds) (t .last .1 .1 .1 .1 .1 .0) (t .kept .1 .1 .1 .1 .1 .0 ∙ size) (c .before .before .before .before .before .before .before .held-line .ensures) (c .before .before .before .before .held-line2 .ensures)) in
+    arrives s (a .direction) (a .octets .now) (a .to-server .now) (a .to-client .now) side (side-tested (a .direction)) free
     all
     (t .ensures .0 .0)
     (t .ensures .0 .1)
     (t .ensures .1)
-    (c .after .ensures)
+    after
 
 pub arrive-spec : {M : Type 1} → statement M
 arrive-spec =
@@ -62,7 +117,16 @@ arrive-spec =
     refused-requires
     returns
     enum-told
+    laid-requires
+    slice-aggregate-take
     take-requires
+    array-share-prefix-lines
+    slice-aggregate-held-line
+    held-line-requires
+    sub-held-line
+    part-held-line-start
+    part-held-line-end
+    held-line-requires-2
     after-requires
     same-length
     same-length-2

@@ -1,0 +1,26 @@
+-- `session::counts_then` meets its contract. The octets taken count for the side that they came from.
+use mathlib.Core.Logic.{⊎-elim}
+use borrow.Author.Needs.{needs}
+use Rattle.steps.specs.Takes.{sideIf}
+use Rattle.session.proofs.Outcomes.{counts-by}
+use Rattle.session.proofs.counts_then.Statement.{statement}
+use Rattle.session.proofs.counts_then.Tie as tie
+
+counted-requires : tie.Need-counted-requires
+counted-requires c κs = search needs
+
+counted-requires-2 : tie.Need-counted-requires-2
+counted-requires-2 c κs = search needs
+
+returns : tie.Need-returns
+returns c =
+    let a = c .before .before .before .args in
+    let here = c .before .counted .ensures in
+    let there = c .counted2 .ensures in
+    ⊎-elim
+    (λ w. counts-by (a .up) (a .down) (sideIf (a .from-client)) (a .taken) (a .written .server) (a .written .client) (rw (w .0 .taken) (w .2)) (rw (w .0 .taken) (w .1)) here there)
+    (λ w. counts-by (a .up) (a .down) (sideIf (a .from-client)) (a .taken) (a .written .server) (a .written .client) (rw (w .0 .left) (w .2)) (rw (w .0 .left) (w .1)) here there)
+    (c .before .before .if1 .came)
+
+pub counts-then-spec : {M : Type 1} → statement M
+counts-then-spec = tie.close (tie.spec counted-requires counted-requires-2 returns)
