@@ -15,7 +15,8 @@ use Rattle.answers.proofs.Table.{setup-zero}
 use Rattle.history.specs.Gateway.{Fresh as SessionFresh, Promise as SessionPromise, outcomeOf, gateway}
 use Rattle.history.proofs.Demand3.{demand3}
 use Rattle.image.specs.Image.{sessionOf}
-use Rattle.relay.specs.Host.{preparedFrom, arrivedAt, endedAt, serverAfter, clientAfter}
+use Rattle.image.specs.Lent.{arrivedAt, endedAt, serverAfter, clientAfter}
+use Rattle.relay.specs.Host.{preparedFrom}
 use Rattle.relay.specs.Carried.{Holds}
 use Rattle.relay.proofs.Calls.{from-slices, room}
 use Rattle.relay.proofs.Carrying.{good-flags, begun, carried}

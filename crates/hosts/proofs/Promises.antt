@@ -19,7 +19,8 @@ use Rattle.session.specs.declared.Prepared.{Prepared}
 use Rattle.session.specs.Calls.{offset}
 use Rattle.history.specs.Gateway.{numberOf, offsetNumber}
 use Rattle.image.specs.Image.{imageSize, imageOf}
-use Rattle.relay.specs.Host.{preparedFrom, setupNumber, imageAfter, serverAfter, clientAfter, countsAfter, offsetAfter}
+use Rattle.image.specs.Lent.{imageAfter, serverAfter, clientAfter}
+use Rattle.relay.specs.Host.{preparedFrom, setupNumber, countsAfter, offsetAfter}
 use Rattle.hosts.specs.Memory.{Fresh, outcomeAt, Promise, toldBy}
 
 -- ---- a setup that is told 0 had room for the record, and addresses of their lengths

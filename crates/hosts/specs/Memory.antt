@@ -14,7 +14,8 @@ use Rattle.output.specs.Buffer.{placed}
 use Rattle.session.specs.Calls.{Outcome, offset as sessionOffset}
 use Rattle.history.specs.Gateway.{numberOf, offsetNumber}
 use Rattle.image.specs.Image.{imageSize, imageOf, sessionOf}
-use Rattle.relay.specs.Host.{preparedFrom, setupNumber, arrivedAt, endedAt, imageAfter, serverAfter, clientAfter}
+use Rattle.image.specs.Lent.{arrivedAt, endedAt, imageAfter, serverAfter, clientAfter}
+use Rattle.relay.specs.Host.{preparedFrom, setupNumber}
 
 -- "the record of a setup that answered 0": what `fashlemor_setup` left in memory that had room for a record
 pub record Fresh (su : Setup) (image : List ℕ) : Type 0 where

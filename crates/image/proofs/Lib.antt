@@ -1,5 +1,7 @@
 -- Laws of images: how one is written, how it is read, and that it is read back.
 pub mod Writing
 pub mod Reading
+pub mod Patch
+pub mod Arrivals
 pub mod Back
 pub mod Again

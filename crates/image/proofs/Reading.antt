@@ -7,14 +7,20 @@ use native.Mathlib.Omega.{arith}
 use lib.ListN.{length, drop, replicate, length-drop}
 use lib.Dec.{leb}
 use lib.Seq.{length-take-le}
-use borrow.Author.Tests.{le-leb, lt-leb, not-true, not-false}
+use borrow.Author.Tests.{le-leb, lt-leb, leb-true, not-true, not-false}
 use Rattle.rules.specs.Octets.{choose}
+use Rattle.rules.specs.Answers.{soundRecord}
+use Rattle.rules.specs.declared.Answer.{Answer}
+use Rattle.octets.proofs.Ranges.{and-both}
 use Rattle.places.specs.declared.Place.{Place}
 use Rattle.output.specs.Buffer.{placed}
 use Rattle.output.proofs.Front.{filled}
 use Rattle.records.specs.declared.Control.{Control}
 use Rattle.records.specs.declared.Counts.{Counts}
 use Rattle.records.specs.declared.Session.{Session}
+use Rattle.records.specs.declared.Refusal.{Refusal}
+use Rattle.records.specs.Sound.{sound, refusalOn, refusalOf, refusalBy}
+use Rattle.records.proofs.Refusals.{unsound}
 use Rattle.session.specs.Calls.{deadSession}
 use Rattle.image.specs.Image.{imageSize, placeOf, isSet, part, countsAt, controlIn, fieldsIn, atMost, isImage, sessionOf}
 
@@ -55,29 +61,47 @@ fields-read image a b c d e f g h = rw (a, b, c, d, e, f, g, h)
 
 -- ---- what is an image, and what is not
 
-both-sides : (a b : Bool) → (a && false && b) ≡ false
-both-sides true b = refl
-both-sides false b = refl
-
-none-last : (a b : Bool) → (a && b && false) ≡ false
-none-last true true = refl
-none-last true false = refl
-none-last false b = refl
-
 module _ (image : List ℕ) where
-  pub too-short : length image < imageSize → deadSession ≡ sessionOf image
-  unfolding sessionOf isImage choose
+  pub too-short : length image < imageSize → false ≡ isImage image
+  unfolding isImage
   too-short h = rw (lt-leb imageSize (length image) h)
 
-  pub no-mark : {b : Bool} → b ≡ atMost 1 (part image 0 5) → not b ≡ true → deadSession ≡ sessionOf image
-  unfolding sessionOf isImage choose
-  no-mark {b} e t = rw (sym e ∙ not-true b t, both-sides (leb imageSize (length image)) (atMost 3 (part image 5 2)))
+  pub no-mark : imageSize ≤ length image → {b : Bool} → b ≡ atMost 1 (part image 0 5) → not b ≡ true → false ≡ isImage image
+  unfolding isImage
+  no-mark h {b} e t = rw (le-leb imageSize (length image) h, sym e ∙ not-true b t)
 
-  pub no-place : {b : Bool} → b ≡ atMost 3 (part image 5 2) → not b ≡ true → deadSession ≡ sessionOf image
-  unfolding sessionOf isImage choose
-  no-place {b} e t = rw (sym e ∙ not-true b t, none-last (leb imageSize (length image)) (atMost 1 (part image 0 5)))
+  -- the places decide where the other tests hold
+  pub by-places : imageSize ≤ length image → {a b : Bool} → a ≡ atMost 1 (part image 0 5) → not a ≡ false
+      → b ≡ atMost 3 (part image 5 2) → b ≡ isImage image
+  unfolding isImage
+  by-places h {a} e t f = rw (le-leb imageSize (length image) h, sym e ∙ not-false a t) f
 
-  pub is-image : {a b : Bool} → imageSize ≤ length image → a ≡ atMost 1 (part image 0 5) → not a ≡ false
-      → b ≡ atMost 3 (part image 5 2) → not b ≡ false → fieldsIn image ≡ sessionOf image
-  unfolding sessionOf isImage choose
-  is-image {a} {b} h e t f u = rw (le-leb imageSize (length image) h, sym e ∙ not-false a t, sym f ∙ not-false b u)
+  pub image-size : {b : Bool} → b ≡ isImage image → not b ≡ false → imageSize ≤ length image
+  unfolding isImage
+  image-size {b} e t =
+      let long = leb imageSize (length image) in
+      let marked = atMost 1 (part image 0 5) in
+      leb-true imageSize (length image) (and-both long marked (and-both (long && marked) _ (sym e ∙ not-false b t) .0) .0)
+
+  pub no-image : {b : Bool} → b ≡ isImage image → not b ≡ true → deadSession ≡ sessionOf image
+  unfolding sessionOf choose
+  no-image {b} e t = rw (sym e ∙ not-true b t)
+
+  pub is-image : {b : Bool} → b ≡ isImage image → not b ≡ false → fieldsIn image ≡ sessionOf image
+  unfolding sessionOf choose
+  is-image {b} e t = rw (sym e ∙ not-false b t)
+
+-- ---- what refuses a call on the record of an image
+
+dead-refused : (d : ℕ) → d < 2 → Refusal.By Answer.BadRecord ≡ refusalBy (refusalOf deadSession d)
+unfolding refusalOf sound soundRecord deadSession
+dead-refused d h = unsound d _ _ h {s′ = false} refl refl
+
+module _ (image : List ℕ) (d : ℕ) {b : Bool} (e : b ≡ isImage image) where
+  pub refused-no-image : not b ≡ true → d < 2 → Refusal.By Answer.BadRecord ≡ refusalBy (refusalOf (sessionOf image) d)
+  refused-no-image t h = dead-refused d h ∙ ap (λ (s : Session). refusalBy (refusalOf s d)) (no-image image e t)
+
+  pub refused-by-parts : not b ≡ false → {control : Control} → control ≡ controlIn image → {kinds : List ℕ} → kinds ≡ part image 55 16
+      → {r : Refusal} → r ≡ refusalBy (refusalOn (isSet image 0) control kinds d) → r ≡ refusalBy (refusalOf (sessionOf image) d)
+  unfolding refusalOf sound fieldsIn
+  refused-by-parts t p q r = r ∙ rw (p, q) (ap (λ (s : Session). refusalBy (refusalOf s d)) (is-image image e t))

@@ -1,18 +1,25 @@
 -- The parts of an image written one after another, and their length.
-use mathlib.Core.Path.{_≡_}
+use mathlib.Core.Path.{_≡_, refl}
+use mathlib.Core.Bool.{Bool}
 use mathlib.Core.List.{List, _++_}
 use Prim.Native.Nat.{ℕ}
 use native.Mathlib.Omega.{arith}
 use lib.ListN.{length, length-append}
 use Rattle.output.specs.Buffer.{PlacedInRoom}
 use Rattle.output.proofs.Placing.{Wrote, joined}
+use Rattle.records.specs.declared.Control.{Control}
+use Rattle.records.specs.declared.Counts.{Counts}
 use Rattle.records.specs.declared.Session.{Session}
-use Rattle.image.specs.Image.{Sized, imageSize, fourOctets, marksOf, numbersOf, arraysOf, imageOf}
+use Rattle.image.specs.Image.{Sized, imageSize, fourOctets, marksFrom, numbersFrom, marksOf, numbersOf, arraysOf, imageOf}
 
 -- a part that was put, and those behind it
 pub andThen : (out : List ℕ) (at : ℕ) (a b : List ℕ) {after last : List ℕ} {next end : ℕ} → Wrote out at a next after
     → PlacedInRoom after next b end last → PlacedInRoom out at (a ++ b) end last
 andThen out at a b one rest = joined out at a b (λ room. one) rest
+
+pub front-length : (live supported : Bool) (c : Control) (up down : Counts) → length (marksFrom live supported c ++ numbersFrom c up down) ≡ 35
+unfolding fourOctets
+front-length live supported c up down = refl
 
 pub arrays-length : (s : Session) → Sized s → length (arraysOf s) ≡ 1058
 unfolding arraysOf

@@ -40,22 +40,26 @@ capped n = choose (leb n (2 ^ 32 - 1)) n (2 ^ 32 - 1)
 
 -- ---- the image of a record
 
-unfoldable pub marksOf : Session → List ℕ
-marksOf s =
-    let c = s .control in
-    bit (s .live) ∷ bit (s .supported) ∷ bit (c .switches .epsv) ∷ bit (c .switches .eprt) ∷ bit (c .unfinished)
+abbrev pub marksFrom : Bool → Bool → Control → List ℕ
+marksFrom live supported c =
+    bit live ∷ bit supported ∷ bit (c .switches .epsv) ∷ bit (c .switches .eprt) ∷ bit (c .unfinished)
     ∷ placeNumber (c .client .place) ∷ placeNumber (c .server .place) ∷ []
 
-unfoldable pub numbersOf : Session → List ℕ
-numbersOf s =
-    let c = s .control in
+unfoldable pub marksOf : Session → List ℕ
+marksOf s = marksFrom (s .live) (s .supported) (s .control)
+
+abbrev pub numbersFrom : Control → Counts → Counts → List ℕ
+numbersFrom c up down =
     fourOctets (capped (c .owed))
     ++ (fourOctets (capped (c .client .held))
     ++ (fourOctets (capped (c .server .held))
-    ++ (fourOctets (s .up .taken)
-    ++ (fourOctets (s .up .written)
-    ++ (fourOctets (s .down .taken)
-    ++ fourOctets (s .down .written))))))
+    ++ (fourOctets (up .taken)
+    ++ (fourOctets (up .written)
+    ++ (fourOctets (down .taken)
+    ++ fourOctets (down .written))))))
+
+unfoldable pub numbersOf : Session → List ℕ
+numbersOf s = numbersFrom (s .control) (s .up) (s .down)
 
 unfoldable pub arraysOf : Session → List ℕ
 arraysOf s = s .client ++ (s .mapped ++ (s .kinds ++ (s .command ++ s .reply)))

@@ -1,10 +1,12 @@
 // The record as octets in lent memory, so that a host can keep it between calls.
 ghost use mathlib.Core.Path.{_≡_};
 ghost use Prim.Native.Nat.{_+_, _≤_};
+ghost use mathlib.Core.List.{_++_};
 ghost use lib.ListN.{length, replicate};
 ghost use Rattle.output.specs.Buffer.{placed, placeAfter, PlacedInRoom};
+ghost use Rattle.records.specs.Sound.{refusalOf, refusalBy};
 ghost use Rattle.session.specs.Calls.{deadSession};
-ghost use Rattle.image.specs.Image.{bit as bitOf, placeNumber, fourOctets, capped as cappedAt, marksOf, numbersOf, arraysOf, imageOf, placeOf, numberAt, countsAt, controlIn, fieldsIn, atMost, sessionOf};
+ghost use Rattle.image.specs.Image.{bit as bitOf, placeNumber, fourOctets, capped as cappedAt, marksFrom, numbersFrom, arraysOf, imageOf, placeOf, numberAt, countsAt, controlIn, fieldsIn, isSet, part, atMost, isImage, sessionOf};
 use output::four;
 use output::put;
 use output::sixteen;
@@ -12,9 +14,18 @@ use places::Direction;
 use places::Place;
 use records::Control;
 use records::Counts;
+use records::Refusal;
 use records::Session;
+use records::refusal_by;
+use rules::Answer;
 use rules::Switches;
 use session::refused_setup;
+use steps::Fixed;
+
+mod arrival;
+
+pub use arrival::Told;
+pub use arrival::arrive_at;
 
 // The octets of an image.
 pub const SIZE: usize = 1093;
@@ -26,23 +37,25 @@ pub fn put_image(image: &mut [u8], session: Session)
     if image.len() < SIZE {
         return;
     }
-    let marked = put_marks(image, 0, session);
-    let counted = put_numbers(image, marked, session);
+    let control = session.control;
+    let up = session.up;
+    let down = session.down;
+    let marked = put_marks(image, 0, session.live, session.supported, control);
+    let counted = put_numbers(image, marked, control, up, down);
     put_arrays(image, counted, session);
 }
 
-fn put_marks(out: &mut [u8], at: usize, session: Session) -> usize
-    ensures { λ r. ⌜ PlacedInRoom (now (out .entry)) at (marksOf session) r (now (out .exit)) ⌝ }
+fn put_marks(out: &mut [u8], at: usize, live: bool, supported: bool, control: Control) -> usize
+    ensures { λ r. ⌜ PlacedInRoom (now (out .entry)) at (marksFrom live supported control) r (now (out .exit)) ⌝ }
 {
-    let control = session.control;
     let switches = control.switches;
     let client = control.client;
     let server = control.server;
     let client_place = client.place;
     let server_place = server.place;
     let marks = [
-        bit(session.live),
-        bit(session.supported),
+        bit(live),
+        bit(supported),
         bit(switches.epsv),
         bit(switches.eprt),
         bit(control.unfinished),
@@ -72,14 +85,11 @@ fn place_number(place: Place) -> u8
     }
 }
 
-fn put_numbers(out: &mut [u8], at: usize, session: Session) -> usize
-    ensures { λ r. ⌜ PlacedInRoom (now (out .entry)) at (numbersOf session) r (now (out .exit)) ⌝ }
+fn put_numbers(out: &mut [u8], at: usize, control: Control, up: Counts, down: Counts) -> usize
+    ensures { λ r. ⌜ PlacedInRoom (now (out .entry)) at (numbersFrom control up down) r (now (out .exit)) ⌝ }
 {
-    let control = session.control;
     let client = control.client;
     let server = control.server;
-    let up = session.up;
-    let down = session.down;
     let mut next = put_number(out, at, capped(control.owed));
     next = put_number(out, next, capped(client.held));
     next = put_number(out, next, capped(server.held));
@@ -128,20 +138,47 @@ fn put_arrays(out: &mut [u8], at: usize, session: Session) -> usize
     put(out, next, &reply)
 }
 
+// Writes back what a call changes of a record: marks, numbers and kinds. The addresses and the lines stay as they lie.
+fn put_back(
+    image: &mut [u8],
+    live: bool,
+    supported: bool,
+    control: Control,
+    kinds: [u8; 16],
+    up: Counts,
+    down: Counts,
+)
+    requires { ⌜ 1093 ≤ length (now image) ⌝ }
+    ensures { λ _.
+        ⌜ now (image .exit)
+        ≡ placed (placed (now (image .entry)) 0 (marksFrom live supported control ++ numbersFrom control up down)) 55 kinds ⌝ }
+{
+    let marked = put_marks(image, 0, live, supported, control);
+    put_numbers(image, marked, control, up, down);
+    put(image, 55, &kinds);
+}
+
 // The record of an image. Octets that are no image are a record that number 4 refuses.
 pub fn read_image(image: &[u8]) -> Session
     ensures { λ r. ⌜ r ≡ sessionOf (now (image .entry)) ⌝ }
 {
-    if image.len() < SIZE {
-        return dead();
-    }
-    if !at_most(&image[..5], 1) {
-        return dead();
-    }
-    if !at_most(&image[5..7], 3) {
+    if !is_image(image) {
         return dead();
     }
     fields(image)
+}
+
+// Whether there are octets enough, and each mark has a value of its field.
+fn is_image(image: &[u8]) -> bool
+    ensures { λ r. ⌜ r ≡ isImage (now (image .entry)) ⌝ }
+{
+    if image.len() < SIZE {
+        return false;
+    }
+    if !at_most(&image[..5], 1) {
+        return false;
+    }
+    at_most(&image[5..7], 3)
 }
 
 fn dead() -> Session
@@ -190,6 +227,41 @@ fn fields(image: &[u8]) -> Session
         kinds,
         up,
         down,
+    }
+}
+
+// What refuses a call on the record of an image, told from its marks, numbers and kinds alone.
+fn refusal_at(image: &[u8], direction: u8) -> Refusal
+    ensures { λ r. ⌜ r ≡ refusalBy (refusalOf (sessionOf (now (image .entry))) direction) ⌝ }
+{
+    if 2 <= direction {
+        return Refusal::By(Answer::UnknownDirection);
+    }
+    if !is_image(image) {
+        return Refusal::By(Answer::BadRecord);
+    }
+    let control = control_in(image);
+    let kinds = sixteen(&image[55..71]);
+    refusal_by(image[0] == 1, control, kinds, direction)
+}
+
+// What a setup fixed, which a call only reads.
+fn fixed_in(image: &[u8]) -> Fixed
+    requires { ⌜ 1093 ≤ length (now image) ⌝ }
+    ensures { λ r.
+        ⌜ r
+        ≡ record {
+          client = part (now (image .entry)) 35 16;
+          mapped = part (now (image .entry)) 51 4;
+          supported = isSet (now (image .entry)) 1;
+        } ⌝ }
+{
+    let client = sixteen(&image[35..51]);
+    let mapped = four(&image[51..55]);
+    Fixed {
+        client,
+        mapped,
+        supported: image[1] == 1,
     }
 }
 

@@ -16,17 +16,9 @@ use Rattle.session.specs.declared.DirectionOffset.{DirectionOffset}
 use Rattle.session.specs.Calls.{Outcome, prepared, offset}
 use Rattle.image.specs.Image.{imageSize, imageOf, sessionOf}
 use Rattle.output.proofs.Front.{filled}
-use Rattle.relay.specs.Host.{
-  refusedSetup,
-  preparedFrom,
-  setupNumber,
-  imageAfter,
-  serverAfter,
-  clientAfter,
-  countsAfter,
-  offsetNumber,
-  offsetAfter,
-}
+use Rattle.image.specs.declared.arrival.Told.{Told}
+use Rattle.image.specs.Lent.{imageAfter, serverAfter, clientAfter, Tells}
+use Rattle.relay.specs.Host.{refusedSetup, preparedFrom, setupNumber, countsFrom, countsAfter, offsetNumber, offsetAfter}
 
 -- ---- setup
 
@@ -78,8 +70,8 @@ module _ (image : List ℕ) (k : Called) {n : ℕ} (number : n ≡ answerNumber 
 -- ---- an arrival or an end, by what it makes of a record
 
 module _ (image : List ℕ) (made : Session → Outcome) (toServer toClient counts : List ℕ) where
-  abbrev pub Told : ℕ → List ℕ → List ℕ → List ℕ → List ℕ → Type 0
-  Told n image′ toServer′ toClient′ counts′ =
+  abbrev pub Promised : ℕ → List ℕ → List ℕ → List ℕ → List ℕ → Type 0
+  Promised n image′ toServer′ toClient′ counts′ =
       (n ≡ answerNumber (made (sessionOf image) .called .answer))
       × ((image′ ≡ imageAfter image (made (sessionOf image) .called))
       × ((toServer′ ≡ serverAfter (made (sessionOf image)) toServer)
@@ -89,7 +81,7 @@ module _ (image : List ℕ) (made : Session → Outcome) (toServer toClient coun
   pub told : {s : Session} {k : Called} {n : ℕ} {image′ toServer′ toClient′ counts′ : List ℕ} → s ≡ sessionOf image → k ≡ made s .called
       → toServer′ ≡ made s .toServer ++ drop (k .written .server) toServer → toClient′ ≡ made s .toClient ++ drop (k .written .client) toClient
       → counts′ ≡ countsAfter k counts → n ≡ answerNumber (k .answer) → image′ ≡ imageAfter image k
-      → Told n image′ toServer′ toClient′ counts′
+      → Promised n image′ toServer′ toClient′ counts′
   unfolding serverAfter clientAfter
   told {s} e p server client counted number kept′ =
       let same = p ∙ ap (λ (x : Session). made x .called) e in (
@@ -105,6 +97,14 @@ module _ (image : List ℕ) (made : Session → Outcome) (toServer toClient coun
           ),
         ),
       )
+
+-- the number and the counts that tell of a call
+pub numbers-told : (o : Outcome) (r : Told) (counts : List ℕ) {n : ℕ} {counts′ : List ℕ} → Tells r (o .called) → n ≡ answerNumber (r .answer)
+    → counts′ ≡ countsFrom (r .taken) (r .written) counts
+    → (n ≡ answerNumber (o .called .answer)) × (counts′ ≡ countsAfter (o .called) counts)
+unfolding countsAfter
+numbers-told o r counts t number counted =
+    (number ∙ ap answerNumber (t .answer), counted ∙ (λ i. countsFrom (t .taken i) (t .written i) counts))
 
 -- ---- offset
 

@@ -29,7 +29,7 @@ use Rattle.image.specs.Image.{imageSize, imageOf, fieldsIn, isImage, sessionOf,
 use Rattle.image.proofs.Writing.{image-length}
 use Rattle.image.proofs.Back.{read-back}
 use Rattle.image.proofs.Again.{image-long, written-same}
-use Rattle.relay.specs.Host.{endedAt, imageAfter}
+use Rattle.image.specs.Lent.{endedAt, imageAfter}
 use Rattle.relay.specs.Carried.{Holds, Begun, Carried, EndKeeps}
 use Rattle.relay.proofs.Calls.{from-slices, kept, written-back}
 

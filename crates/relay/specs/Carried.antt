@@ -14,7 +14,8 @@ use Rattle.session.specs.Bounds.{Shaped}
 use Rattle.session.specs.Calls.{Outcome, freshSession}
 use Rattle.answers.specs.Table.{Call, Result, Sound}
 use Rattle.image.specs.Image.{imageSize, imageOf, sessionOf, Wrapped}
-use Rattle.relay.specs.Host.{preparedFrom, endedAt, imageAfter}
+use Rattle.image.specs.Lent.{endedAt, imageAfter}
+use Rattle.relay.specs.Host.{preparedFrom}
 
 -- a record is read from the memory, and number 4 does not refuse it; the sizes are those of its types
 pub record Holds (image : List ℕ) (s : Session) : Type 0 where

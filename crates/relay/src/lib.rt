@@ -5,7 +5,9 @@ ghost use Rattle.rules.specs.Answers.{answerNumber};
 ghost use Rattle.output.specs.Buffer.{placed};
 ghost use Rattle.session.specs.Calls.{offset as offsetIn};
 ghost use Rattle.image.specs.Image.{imageOf, sessionOf};
-ghost use Rattle.relay.specs.Host.{preparedFrom, setupNumber, arrivedAt, endedAt, imageAfter, serverAfter, clientAfter, countsAfter, offsetNumber, offsetAfter};
+ghost use Rattle.image.specs.Lent.{arrivedAt, endedAt, imageAfter, serverAfter, clientAfter};
+ghost use Rattle.relay.specs.Host.{preparedFrom, setupNumber, countsFrom, countsAfter, offsetNumber, offsetAfter};
+use image::arrive_at;
 use image::put_image;
 use image::read_image;
 use kinds::number_of;
@@ -15,11 +17,11 @@ use rules::Answer;
 use session::Called;
 use session::DirectionOffset;
 use session::Prepared;
-use session::arrive;
 use session::end;
 use session::offset;
 use session::refused_setup;
 use session::setup;
+use steps::Written;
 
 // Writes the record of a fresh session, or the record of a setup that is refused.
 #[no_mangle]
@@ -67,10 +69,11 @@ pub extern "C" fn fashlemor_arrive(
     ensures { λ r. ⌜ now («to_client» .exit) ≡ clientAfter (arrivedAt (now (image .entry)) direction (now (octets .entry)) (now («to_server» .entry)) (now («to_client» .entry))) (now («to_client» .entry)) ⌝ }
     ensures { λ r. ⌜ now (counts .exit) ≡ countsAfter (arrivedAt (now (image .entry)) direction (now (octets .entry)) (now («to_server» .entry)) (now («to_client» .entry)) .called) (now (counts .entry)) ⌝ }
 {
-    let session = read_image(image);
-    let called = arrive(session, direction, octets, to_server, to_client);
-    put_counts(counts, called);
-    keep(image, called)
+    let told = arrive_at(image, direction, octets, to_server, to_client);
+    let answer = told.answer;
+    let written = told.written;
+    put_counts(counts, told.taken, written);
+    number_of(answer)
 }
 
 // A direction ends: its held octets go into its buffer.
@@ -90,7 +93,8 @@ pub extern "C" fn fashlemor_end(
 {
     let session = read_image(image);
     let called = end(session, direction, to_server, to_client);
-    put_counts(counts, called);
+    let written = called.written;
+    put_counts(counts, called.taken, written);
     keep(image, called)
 }
 
@@ -110,14 +114,13 @@ fn keep(image: &mut [u8], called: Called) -> u8
 }
 
 // Octets taken, written to the server and written to the client, if there is room for three numbers.
-fn put_counts(counts: &mut [usize], called: Called)
-    ensures { λ _. ⌜ now (counts .exit) ≡ countsAfter called (now (counts .entry)) ⌝ }
+fn put_counts(counts: &mut [usize], taken: usize, written: Written)
+    ensures { λ _. ⌜ now (counts .exit) ≡ countsFrom taken written (now (counts .entry)) ⌝ }
 {
     if counts.len() < 3 {
         return;
     }
-    let written = called.written;
-    counts[0] = called.taken;
+    counts[0] = taken;
     counts[1] = written.server;
     counts[2] = written.client;
 }

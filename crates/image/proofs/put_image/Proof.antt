@@ -28,9 +28,9 @@ same-length : tie.Need-same-length
 same-length c = search needs
 
 returns-2 : tie.Need-returns-2
-unfolding imageOf
+unfolding imageOf marksOf numbersOf
 returns-2 c =
-    let start = c .before .before .before .before .before .before .before .before .before .before .before .before .before .before in
+    let start = c .before .before .before .before .before .before .before .before .before .before .before .before .before .before .before .before .before in
     let known = start .good .1 .0 in
     let later = start .good .1 .0 .1 .1 .1 .1 .1 in
     let a = start .args in
@@ -38,7 +38,7 @@ returns-2 c =
     let size = image-length s (record { client = search needs; mapped = search needs; kinds = search needs; command = search needs; reply = search needs }) in
     joined _ _ (marksOf s) (numbersOf s ++ arraysOf s) (c .before .before .before .before .before .before .before .before .before .before .put-marks .ensures)
     (joined _ _ (numbersOf s) (arraysOf s) (c .before .before .before .before .before .before .put-numbers .ensures) (c .before .before .put-arrays .ensures))
-    (omega (arith, c .before .before .before .before .before .before .before .before .before .before .before .before .if1 .left)) .1
+    (omega (arith, c .before .before .before .before .before .before .before .before .before .before .before .before .before .before .before .if1 .left)) .1
 
 pub put-image-spec : {M : Type 1} → statement M
 put-image-spec =

@@ -3,7 +3,7 @@ use mathlib.Core.Path.{_≡_, subst}
 use mathlib.Core.List.{List, [], _∷_}
 use Prim.Native.Nat.{ℕ}
 use Rattle.output.proofs.Placing.{Wrote}
-use Rattle.image.specs.Image.{marksOf}
+use Rattle.image.specs.Image.{marksFrom}
 use borrow.Author.Needs.{needs}
 use Rattle.image.proofs.put_marks.Statement.{statement}
 use Rattle.image.proofs.put_marks.Tie as tie
@@ -39,12 +39,11 @@ same-length : tie.Need-same-length
 same-length c = search needs
 
 returns : tie.Need-returns
-unfolding marksOf
 returns c =
     let p = c .before .before .before .before .before in
     let b = p .before .before in
-    let a = c .before .before .before .before .before .before .before .before .before .before .before .before .before .before .before .before .before .args in
-    let marks : b .before .before .before .before .bit .result ∷ b .before .before .before .bit2 .result ∷ b .before .before .bit3 .result ∷ b .before .bit4 .result ∷ b .bit5 .result ∷ p .before .place-number .result ∷ p .place-number2 .result ∷ [] ≡ marksOf (a .session) = cc in
+    let a = c .before .before .before .before .before .before .before .before .before .before .before .before .before .before .before .before .args in
+    let marks : b .before .before .before .before .bit .result ∷ b .before .before .before .bit2 .result ∷ b .before .before .bit3 .result ∷ b .before .bit4 .result ∷ b .bit5 .result ∷ p .before .place-number .result ∷ p .place-number2 .result ∷ [] ≡ marksFrom (a .live) (a .supported) (a .control) = cc in
     λ room. subst (λ (l : List ℕ). Wrote (a .out .now) (a .at) l (c .before .before .put .result) (c .before .before .put .last .0)) marks
     (c .before .before .put .ensures)
 

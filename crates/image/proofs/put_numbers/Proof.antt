@@ -2,7 +2,7 @@
 use mathlib.Core.Path.{ap}
 use mathlib.Core.List.{_++_}
 use Rattle.output.proofs.Placing.{written}
-use Rattle.image.specs.Image.{numbersOf, fourOctets, capped}
+use Rattle.image.specs.Image.{fourOctets, capped}
 use Rattle.image.proofs.Writing.{andThen}
 use borrow.Author.Needs.{needs}
 use Rattle.image.proofs.put_numbers.Statement.{statement}
@@ -42,11 +42,9 @@ same-length : tie.Need-same-length
 same-length c = search needs
 
 returns : tie.Need-returns
-unfolding numbersOf
 returns c =
-    let a = c .before .before .before .before .before .before .before .before .before .before .before .before .before .before .before .before .before .before .before .before .before .before .before .before .before .before .before .before .before .before .before .before .before .before .before .before .before .args in
-    let s = a .session in
-    let k = s .control in
+    let a = c .before .before .before .before .before .before .before .before .before .before .before .before .before .before .before .before .before .before .before .before .before .before .before .before .before .before .before .before .before .before .before .before .before .before .args in
+    let k = a .control in
     let p1 = c .before .before .before .before .before .before .before .before .before .before .before .before .before .before .before .before .before .before .before .before .before .before .before .before .before .before .before .before .put-number in
     let p2 = c .before .before .before .before .before .before .before .before .before .before .before .before .before .before .before .before .before .before .before .before .before .before .before .put-number2 in
     let p3 = c .before .before .before .before .before .before .before .before .before .before .before .before .before .before .before .before .before .before .put-number3 in
@@ -54,18 +52,18 @@ returns c =
     let p5 = c .before .before .before .before .before .before .before .before .before .before .put-number5 in
     let p6 = c .before .before .before .before .before .before .put-number6 in
     let p7 = c .before .before .put-number7 in
-    let t7 = fourOctets (s .down .written) in
-    let t6 = fourOctets (s .down .taken) ++ t7 in
-    let t5 = fourOctets (s .up .written) ++ t6 in
-    let t4 = fourOctets (s .up .taken) ++ t5 in
+    let t7 = fourOctets (a .down .written) in
+    let t6 = fourOctets (a .down .taken) ++ t7 in
+    let t5 = fourOctets (a .up .written) ++ t6 in
+    let t4 = fourOctets (a .up .taken) ++ t5 in
     let t3 = fourOctets (capped (k .server .held)) ++ t4 in
     let t2 = fourOctets (capped (k .client .held)) ++ t3 in
     andThen (a .out .now) (a .at) (fourOctets (capped (k .owed))) t2 (written (a .out .now) (a .at) (ap fourOctets (c .before .before .before .before .before .before .before .before .before .before .before .before .before .before .before .before .before .before .before .before .before .before .before .before .before .before .before .before .before .capped .ensures)) (p1 .ensures))
     (andThen (p1 .last .0) (p1 .result) (fourOctets (capped (k .client .held))) t3 (written (p1 .last .0) (p1 .result) (ap fourOctets (c .before .before .before .before .before .before .before .before .before .before .before .before .before .before .before .before .before .before .before .before .before .before .before .before .capped2 .ensures)) (p2 .ensures))
     (andThen (p2 .last .0) (p2 .result) (fourOctets (capped (k .server .held))) t4 (written (p2 .last .0) (p2 .result) (ap fourOctets (c .before .before .before .before .before .before .before .before .before .before .before .before .before .before .before .before .before .before .before .capped3 .ensures)) (p3 .ensures))
-    (andThen (p3 .last .0) (p3 .result) (fourOctets (s .up .taken)) t5 (p4 .ensures)
-    (andThen (p4 .last .0) (p4 .result) (fourOctets (s .up .written)) t6 (p5 .ensures)
-    (andThen (p5 .last .0) (p5 .result) (fourOctets (s .down .taken)) t7 (p6 .ensures)
+    (andThen (p3 .last .0) (p3 .result) (fourOctets (a .up .taken)) t5 (p4 .ensures)
+    (andThen (p4 .last .0) (p4 .result) (fourOctets (a .up .written)) t6 (p5 .ensures)
+    (andThen (p5 .last .0) (p5 .result) (fourOctets (a .down .taken)) t7 (p6 .ensures)
     (λ room. p7 .ensures))))))
 
 pub put-numbers-spec : {M : Type 1} → statement M

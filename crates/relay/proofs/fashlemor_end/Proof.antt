@@ -2,7 +2,8 @@
 use lib.ListN.{length}
 use Rattle.records.specs.declared.Session.{Session}
 use Rattle.session.specs.Calls.{ended}
-use Rattle.relay.specs.Host.{endedAt}
+use Rattle.image.specs.Lent.{endedAt}
+use Rattle.relay.specs.Host.{countsAfter}
 use Rattle.relay.proofs.Calls.{told}
 use borrow.Author.Needs.{needs}
 use Rattle.relay.proofs.fashlemor_end.Statement.{statement}
@@ -33,13 +34,13 @@ same-length-4 : tie.Need-same-length-4
 same-length-4 c = search needs
 
 returns : tie.Need-returns
-unfolding endedAt
+unfolding endedAt countsAfter
 returns c =
-    let a = c .before .before .before .before .before .before .before .before .before .before .before .before .before .before .before .before .before .before .before .before .before .args in
-    let r = c .before .before .before .before .before .before .before .before .before .before .before .before .end .ensures in
+    let a = c .before .before .before .before .before .before .before .before .before .before .before .before .before .before .before .before .before .before .before .before .before .before .args in
+    let r = c .before .before .before .before .before .before .before .before .before .before .before .before .before .end .ensures in
     let k = c .before .before .keep .ensures in
     told (a .image .now) (λ (s : Session). ended s (a .direction) (length (a .to-server .now)) (length (a .to-client .now))) (a .to-server .now) (a .to-client .now) (a .counts .now)
-    (c .before .before .before .before .before .before .before .before .before .before .before .before .before .before .before .read-image .ensures) (r .0) (r .1 .0) (r .1 .1) (c .before .before .before .before .before .before .put-counts .ensures) (k .0) (k .1)
+    (c .before .before .before .before .before .before .before .before .before .before .before .before .before .before .before .before .read-image .ensures) (r .0) (r .1 .0) (r .1 .1) (c .before .before .before .before .before .before .put-counts .ensures) (k .0) (k .1)
 
 pub fashlemor-end-spec : {M : Type 1} → statement M
 fashlemor-end-spec =

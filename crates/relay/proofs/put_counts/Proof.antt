@@ -4,13 +4,12 @@ use lib.ListN.{length-set}
 use borrow.Author.Tests.{le-leb, lt-leb}
 use borrow.Author.Needs.{needs}
 use Rattle.rules.specs.Octets.{choose}
-use Rattle.relay.specs.Host.{countsAfter}
 use Rattle.relay.proofs.Copies.{three-stored}
 use Rattle.relay.proofs.put_counts.Statement.{statement}
 use Rattle.relay.proofs.put_counts.Tie as tie
 
 returns : tie.Need-returns
-unfolding countsAfter choose
+unfolding choose
 returns c = rw (lt-leb 3 _ (c .if1 .taken))
 
 slice-write-counts : tie.Need-slice-write-counts
@@ -26,11 +25,10 @@ same-length : tie.Need-same-length
 same-length c = search needs
 
 returns-2 : tie.Need-returns-2
-unfolding countsAfter choose
+unfolding choose
 returns-2 c =
-    let a = c .before .before .args in
-    let k = a .called in
-    rw (le-leb 3 _ (c .before .if1 .left)) (three-stored (a .counts .now) (k .taken) (k .written .server) (k .written .client) (c .before .if1 .left))
+    let a = c .before .args in
+    rw (le-leb 3 _ (c .if1 .left)) (three-stored (a .counts .now) (a .taken) (a .written .server) (a .written .client) (c .if1 .left))
 
 pub put-counts-spec : {M : Type 1} → statement M
 put-counts-spec =

@@ -1,0 +1,194 @@
+-- An arrival on an image, from what the functions that it calls return.
+use mathlib.Core.Path.{_≡_, refl, sym, ap, subst, _∙_}
+use mathlib.Core.Bool.{Bool, true, false, not, false≢true}
+use mathlib.Core.List.{List, [], _∷_, _++_, append-assoc}
+use mathlib.Core.Option.{Option, none, some}
+use Prim.Native.Nat.{ℕ, _+_, _-_, _≤_}
+use native.Mathlib.Omega.{arith}
+use lib.Dec.{leb}
+use lib.ListN.{length, take, drop, length-append, length-drop}
+use lib.Seq.{length-take-le, take-add, take-take, drop-at, drop-drop}
+use borrow.Rule.Slice.PartMut.{putMid}
+use Rattle.rules.specs.Octets.{choose}
+use Rattle.rules.specs.Answers.{Side, client, server, sideOf, answerNumber, soundRecord, refusal, stop}
+use Rattle.rules.specs.declared.Answer.{Answer}
+use Rattle.output.specs.Buffer.{placed}
+use Rattle.records.specs.declared.Control.{Control}
+use Rattle.records.specs.declared.Counts.{Counts}
+use Rattle.records.specs.declared.Session.{Session}
+use Rattle.records.specs.declared.Refusal.{Refusal}
+use Rattle.records.specs.Sound.{sound, refusalOf, refusalBy}
+use Rattle.records.proofs.Refusals.{refusal-cases, by-answer, countable}
+use Rattle.steps.specs.declared.Fixed.{Fixed}
+use Rattle.steps.specs.declared.Written.{Written}
+use Rattle.steps.specs.declared.Taken.{Taken}
+use Rattle.steps.specs.Steps.{State, octetStep}
+use Rattle.steps.specs.Takes.{Took, takes, tookNothing, unlessStopped, stopOf, tookIn, stateFrom, stateIn, coreIn, Given}
+use Rattle.steps.proofs.Takes.{took-all, counts-holdable}
+use Rattle.session.specs.declared.Called.{Called}
+use Rattle.session.specs.Calls.{Outcome, counted, takenFor, fixedOf, stateOf, sessionAfter, deadSession, refused, unlessRefused, arrived}
+use Rattle.session.proofs.Outcomes.{Promised, arrives}
+use Rattle.image.specs.declared.arrival.Told.{Told}
+use Rattle.image.specs.Image.{fourOctets, marksFrom, numbersFrom, marksOf, numbersOf, arraysOf, imageOf, isSet, part, countsAt, controlIn, fieldsIn, isImage, sessionOf}
+use Rattle.image.specs.Lent.{imageAfter, serverAfter, clientAfter, Tells}
+use Rattle.image.proofs.Patch.{patched}
+use Rattle.image.proofs.Reading.{image-size, no-image, is-image}
+
+-- ---- an arrival that is not refused answers less than 3
+
+stopped-below : (full room : Bool) (s : State) (r : Took) → leb 3 (answerNumber (r .answer)) ≡ false
+    → leb 3 (answerNumber (unlessStopped (stop full room) s r .answer)) ≡ false
+unfolding unlessStopped stop choose answerNumber
+stopped-below true room s r h = refl
+stopped-below false true s r h = h
+stopped-below false false s r h = refl
+
+pub takes-below : (f : Fixed) (d : Side) (s : State) (l : List ℕ) (m n : ℕ) → leb 3 (answerNumber (takes f d s l m n .answer)) ≡ false
+unfolding takes stopOf answerNumber
+takes-below f d s [] m n = refl
+takes-below f d s (x ∷ xs) m n = stopped-below _ _ s _ (takes-below f d (octetStep f d s x .state) xs _ _)
+
+-- ---- the two lines as they lie in an image
+
+pub lines-lie : (image : List ℕ) (c : Control) (kinds : List ℕ) → 1093 ≤ length image
+    → stateIn c (part image 71 1022) kinds ≡ stateFrom c (part image 71 511) (part image 582 511) kinds
+lines-lie image c kinds room =
+    let l = drop 71 image in
+    let long = length-drop 71 image in
+    let first = take-take 511 1022 l (omega arith) in
+    let second : drop 511 (take 1022 l) ≡ part image 582 511 =
+    ap (drop 511) (take-add 511 511 l)
+    ∙ (drop-at (take 511 l) (take 511 (drop 511 l)) 511 (length-take-le 511 l (omega arith)) ∙ ap (take 511) (drop-drop 511 71 image)) in
+    λ i. stateFrom c (first i) (second i) kinds
+
+-- ---- what an arrival leaves
+
+-- of an outcome o: what is told, the image and the two buffers
+abbrev pub Left : Outcome → Told → List ℕ → List ℕ → List ℕ → List ℕ → List ℕ → List ℕ → Type 0
+Left o r image image′ out out′ other other′ =
+    (Tells r (o .called) × (image′ ≡ imageAfter image (o .called))) × ((out′ ≡ serverAfter o out) × (other′ ≡ clientAfter o other))
+
+module _ (image octets out other : List ℕ) (d : ℕ) (side : Side) (same : side ≡ sideOf d) (room : 1093 ≤ length image)
+    (free : refusalOf (fieldsIn image) d ≡ none) where
+  abbrev s : Session
+  s = fieldsIn image
+
+  abbrev whole : Took
+  whole = takes (fixedOf s) side (stateOf s) octets (length out) (length other)
+
+  pub lent-all : (f : Fixed) (c : Control) (kinds : List ℕ)
+      → f ≡ record { client = part image 35 16; mapped = part image 51 4; supported = isSet image 1 } → c ≡ controlIn image → kinds ≡ part image 55 16
+      → tookIn f side c (part image 71 1022) kinds octets (length out) (length other) ≡ whole
+  unfolding fieldsIn
+  lent-all f c kinds ef ec ek =
+      let k = countable s d free in
+      let size : length (part image 71 1022) ≡ 1022 = length-take-le 1022 (drop 71 image) (omega (arith, length-drop 71 image)) in
+      (λ i. tookIn (ef i) side (ec i) (part image 71 1022) (ek i) octets (length out) (length other))
+      ∙ (took-all (fixedOf s) side (s .control) (part image 71 1022) (s .kinds) octets (length out) (length other)
+      (counts-holdable (s .control) (k .owed) (k .command) (k .reply)) size
+      ∙ ap (λ (t : State). takes (fixedOf s) side t octets (length out) (length other)) (lines-lie image (s .control) (s .kinds) room))
+
+  -- t is what `take` returned, and lines the two lines then
+  module _ (took : Took) (all : took ≡ whole) (t : Taken) (lines out′ other′ : List ℕ)
+      (given : Given took out other (t .answer) (t .taken) (coreIn (t .control) lines (t .kinds) out′ other′ (t .written)))
+      (size : length lines ≡ 1022) (kinds : length (t .kinds) ≡ 16) where
+    abbrev next : Session
+    next = sessionAfter s side (t .taken) (t .written .server) (t .written .client) (stateIn (t .control) lines (t .kinds))
+
+    abbrev called : Called
+    called = record { answer = t .answer; taken = t .taken; written = t .written; session = next }
+
+    abbrev o : Outcome
+    o = arrived s d octets (length out) (length other)
+
+    promised : Promised o called out other out′ other′
+    promised = arrives s d octets out other side same free all (given .0 .0) (given .0 .1) (given .1) refl
+
+    below : leb 3 (answerNumber (o .called .answer)) ≡ false
+    below =
+        ap (λ (k : Called). leb 3 (answerNumber (k .answer))) (sym (promised .0))
+        ∙ (ap (λ (a : Answer). leb 3 (answerNumber a)) (given .0 .0 ∙ ap (λ (x : Took). x .answer) all)
+        ∙ takes-below (fixedOf s) side (stateOf s) octets (length out) (length other))
+
+    -- what is written back makes the image of the next record
+    module _ (live supported : Bool) (up down up′ down′ : Counts) (el : live ≡ isSet image 0) (es : supported ≡ isSet image 1)
+        (eu : up ≡ countsAt image 19) (ed : down ≡ countsAt image 27)
+        (eu′ : up′ ≡ counted up (takenFor client side (t .taken)) (t .written .server))
+        (ed′ : down′ ≡ counted down (takenFor server side (t .taken)) (t .written .client)) where
+      abbrev marks : List ℕ
+      marks = marksFrom live supported (t .control)
+
+      abbrev numbers : List ℕ
+      numbers = numbersFrom (t .control) up′ down′
+
+      head-size : length (marks ++ numbers) ≡ 35
+      unfolding fourOctets
+      head-size = refl
+
+      arrays : List ℕ
+      arrays = part image 35 16 ++ (part image 51 4 ++ (t .kinds ++ (take 511 lines ++ drop 511 lines)))
+
+      next-image : (marks ++ numbers) ++ arrays ≡ imageOf next
+      unfolding imageOf marksOf numbersOf arraysOf sessionAfter fieldsIn arrays
+      next-image =
+          let u : up′ ≡ counted (countsAt image 19) (takenFor client side (t .taken)) (t .written .server) =
+          eu′ ∙ ap (λ (k : Counts). counted k (takenFor client side (t .taken)) (t .written .server)) eu in
+          let v : down′ ≡ counted (countsAt image 27) (takenFor server side (t .taken)) (t .written .client) =
+          ed′ ∙ ap (λ (k : Counts). counted k (takenFor server side (t .taken)) (t .written .client)) ed in
+          append-assoc marks numbers arrays
+          ∙ (λ i. marksFrom (el i) (es i) (t .control) ++ (numbersFrom (t .control) (u i) (v i) ++ arrays))
+
+      pub left : (image′ : List ℕ) → image′ ≡ placed (placed (putMid 71 1022 image lines) 0 (marks ++ numbers)) 55 (t .kinds)
+          → Left o (record { answer = t .answer; taken = t .taken; written = t .written }) image image′ out out′ other other′
+      unfolding serverAfter clientAfter imageAfter choose arrays
+      left image′ e =
+          let p = promised .0 in
+          let back = e ∙ (patched image lines room size (marks ++ numbers) (t .kinds) head-size kinds ∙ ap (placed image 0) next-image) in (
+            (
+              record { answer = ap (λ (k : Called). k .answer) p; taken = ap (λ (k : Called). k .taken) p; written = ap (λ (k : Called). k .written) p },
+              back ∙ (ap (λ (k : Called). placed image 0 (imageOf (k .session))) p ∙ sym (rw below)),
+            ),
+            (
+              promised .1 .0 ∙ ap (λ (k : Called). o .toServer ++ drop (k .written .server) out) p,
+              promised .1 .1 ∙ ap (λ (k : Called). o .toClient ++ drop (k .written .client) other) p,
+            ),
+          )
+
+-- ---- a refusal
+
+-- "With 3, 4 and 6 nothing is written and the record comes back equal"
+refused-below : (d : ℕ) (sound ended : Bool) (a : Answer) → refusal d sound ended ≡ some a → leb 3 (answerNumber a) ≡ true
+unfolding answerNumber
+refused-below d sound ended a =
+    refusal-cases (λ (o : Option Answer). o ≡ some a → leb 3 (answerNumber a) ≡ true) d sound ended
+    (λ t q. ap told (sym q)) (λ t u q. ap told (sym q)) (λ t u v q. ap told (sym q)) (λ t u v q. cc)
+  where
+    told : Option Answer → Bool
+    told none = false
+    told (some b) = leb 3 (answerNumber b)
+
+pub turned-away-at : (image octets out other : List ℕ) (d : ℕ) {q : Refusal} {a : Answer} → q ≡ refusalBy (refusalOf (sessionOf image) d) → q ≡ Refusal.By a
+    → Left (arrived (sessionOf image) d octets (length out) (length other)) (record { answer = a; taken = 0; written = record { server = 0; client = 0 } })
+    image image out out other other
+unfolding arrived unlessRefused refused imageAfter serverAfter clientAfter choose refusalOf
+turned-away-at image octets out other d {q} {a} p e =
+    let by = by-answer (refusalOf (sessionOf image) d) a (sym p ∙ e) in
+    rw by ((record { answer = refl; taken = refl; written = refl }, rw (refused-below d _ _ a by)), (refl, refl))
+
+-- ---- memory whose record refuses nothing is an image
+
+dead-refuses : (d : ℕ) → refusalOf deadSession d ≡ none → false ≡ true
+unfolding refusalOf sound soundRecord deadSession
+dead-refuses d =
+    refusal-cases (λ (o : Option Answer). o ≡ none → false ≡ true) d false _ (λ t q. cc) (λ t u q. cc) (λ t u v q. u) (λ t u v q. u)
+
+module _ (image : List ℕ) (d : ℕ) (free : refusalOf (sessionOf image) d ≡ none) where
+  by-test : (b : Bool) → b ≡ isImage image → not b ≡ false
+  by-test true e = refl
+  by-test false e = absurd (false≢true (dead-refuses d (ap (λ (s : Session). refusalOf s d) (no-image image e refl) ∙ free)))
+
+  pub free-size : 1093 ≤ length image
+  free-size = image-size image {b = isImage image} refl (by-test (isImage image) refl)
+
+  pub free-fields : fieldsIn image ≡ sessionOf image
+  free-fields = is-image image {b = isImage image} refl (by-test (isImage image) refl)

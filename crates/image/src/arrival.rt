@@ -1,0 +1,101 @@
+// An arrival on the record where it lies: marks and numbers are read and written back, and the lines are used in place.
+ghost use mathlib.Core.Path.{_≡_};
+ghost use mathlib.Core.Option.{none};
+ghost use Rattle.records.specs.Sound.{refusalOf};
+ghost use Rattle.image.specs.Image.{sessionOf};
+ghost use Rattle.image.specs.Lent.{arrivedAt, imageAfter, serverAfter, clientAfter, Tells};
+use crate::control_in;
+use crate::counts_at;
+use crate::fixed_in;
+use crate::put_back;
+use crate::refusal_at;
+use output::sixteen;
+use records::Refusal;
+use rules::Answer;
+use session::counts_then;
+use steps::Written;
+use steps::take;
+
+// What a call on an image tells: its answer, how many octets it took, and how many it wrote into each buffer.
+pub struct Told {
+    pub answer: Answer,
+    pub taken: usize,
+    pub written: Written,
+}
+
+// Octets of a direction arrive; what they give goes into the two buffers. A call that is refused leaves the image as it was.
+pub fn arrive_at(
+    image: &mut [u8],
+    direction: u8,
+    octets: &[u8],
+    to_server: &mut [u8],
+    to_client: &mut [u8],
+) -> Told
+    ensures { λ r.
+        let o = arrivedAt (now (image .entry)) direction (now (octets .entry)) (now («to_server» .entry)) (now («to_client» .entry)) in
+        ⌜ Tells r (o .called) × (now (image .exit) ≡ imageAfter (now (image .entry)) (o .called)) ⌝ }
+    ensures { λ r.
+        let o = arrivedAt (now (image .entry)) direction (now (octets .entry)) (now («to_server» .entry)) (now («to_client» .entry)) in
+        ⌜ (now («to_server» .exit) ≡ serverAfter o (now («to_server» .entry))) × (now («to_client» .exit) ≡ clientAfter o (now («to_client» .entry))) ⌝ }
+{
+    if let Refusal::By(answer) = refusal_at(image, direction) {
+        return Told {
+            answer,
+            taken: 0,
+            written: Written {
+                server: 0,
+                client: 0,
+            },
+        };
+    }
+    take_at(image, direction, octets, to_server, to_client)
+}
+
+// The same where nothing refuses it.
+fn take_at(
+    image: &mut [u8],
+    direction: u8,
+    octets: &[u8],
+    to_server: &mut [u8],
+    to_client: &mut [u8],
+) -> Told
+    requires { ⌜ refusalOf (sessionOf (now image)) direction ≡ none ⌝ }
+    ensures { λ r.
+        let o = arrivedAt (now (image .entry)) direction (now (octets .entry)) (now («to_server» .entry)) (now («to_client» .entry)) in
+        ⌜ Tells r (o .called) × (now (image .exit) ≡ imageAfter (now (image .entry)) (o .called)) ⌝ }
+    ensures { λ r.
+        let o = arrivedAt (now (image .entry)) direction (now (octets .entry)) (now («to_server» .entry)) (now («to_client» .entry)) in
+        ⌜ (now («to_server» .exit) ≡ serverAfter o (now («to_server» .entry))) × (now («to_client» .exit) ≡ clientAfter o (now («to_client» .entry))) ⌝ }
+{
+    let from_client = direction == 0;
+    let live = image[0] == 1;
+    let supported = image[1] == 1;
+    let fixed = fixed_in(image);
+    let control = control_in(image);
+    let up = counts_at(image, 19);
+    let down = counts_at(image, 27);
+    let kinds = sixteen(&image[55..71]);
+    let t = take(
+        fixed,
+        from_client,
+        control,
+        kinds,
+        octets,
+        &mut image[71..1093],
+        to_server,
+        to_client,
+    );
+    let then = t.control;
+    let left = t.kinds;
+    let written = t.written;
+    let answer = t.answer;
+    let counts = counts_then(up, down, from_client, t.taken, written);
+    let sent = counts.up;
+    let answered = counts.down;
+    put_back(image, live, supported, then, left, sent, answered);
+    Told {
+        answer,
+        taken: t.taken,
+        written,
+    }
+}
