@@ -86,9 +86,16 @@ def untraced(title):
             yield f"docs/TRACE.md: no row for document 01, {title}: {' '.join(words[:14])}"
 
 
+def functions_in(source):
+    return re.findall(r"^pub (?:extern \"C\" )?fn (\w+)", source.read_text(), re.M) if source.exists() else []
+
+
 def public_functions(crate):
-    source = ROOT / "crates" / crate / "src" / "lib.rt"
-    return re.findall(r"^pub (?:extern \"C\" )?fn (?:fashlemor_)?(\w+)", source.read_text(), re.M) if source.exists() else []
+    """The functions that other crates can call: those of lib.rt, and those of its modules that it hands on."""
+    library = ROOT / "crates" / crate / "src" / "lib.rt"
+    names = functions_in(library)
+    handed = re.findall(r"^pub use (\w+)::(\w+);", library.read_text(), re.M) if library.exists() else []
+    return names + [name for module, name in handed if name in functions_in(library.with_name(f"{module}.rt"))]
 
 
 def edits(crate):
@@ -104,7 +111,7 @@ def missing_edits():
             if crate and name not in edits(crate):
                 yield f"docs/PROMISES.md: {crate} has no edit {name}"
     for crate in (path.name for path in sorted((ROOT / "crates").iterdir())):
-        functions = public_functions(crate)
+        functions = [name.removeprefix("fashlemor_") for name in public_functions(crate)]
         owners = [max((f for f in functions if edit.startswith(f + "_")), key=len, default=None) for edit in edits(crate)]
         for name in functions:
             if owners.count(name) < 2:
@@ -125,8 +132,7 @@ def faults():
             if name not in known.get(module, ()):
                 yield f"{where}: {module}.{name} is not declared"
         for crate, name in re.findall(r"`([a-z]+)::(\w+)`", text):
-            sources = ROOT.glob(f"crates/{crate}/src/lib.rt")
-            if not any(re.search(rf"^pub (?:extern \"C\" )?fn {name}\b", source.read_text(), re.M) for source in sources):
+            if name not in public_functions(crate):
                 yield f"{where}: {crate}::{name} is no public function"
     for title in TRACED:
         yield from untraced(title)
