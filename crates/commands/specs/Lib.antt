@@ -1,2 +1,0 @@
--- Lines of no word that the gateway looks for.
-pub mod Plain
