@@ -29,9 +29,10 @@ use Rattle.session.specs.declared.Called.{Called}
 use Rattle.session.specs.Calls.{Outcome, counted, takenFor, fixedOf, stateOf, sessionAfter, deadSession, refused, unlessRefused, arrived}
 use Rattle.session.proofs.Outcomes.{Promised, arrives}
 use Rattle.image.specs.declared.arrival.Told.{Told}
-use Rattle.image.specs.Image.{fourOctets, marksFrom, numbersFrom, marksOf, numbersOf, arraysOf, imageOf, isSet, part, countsAt, controlIn, fieldsIn, isImage, sessionOf}
+use Rattle.image.specs.Image.{marksFrom, numbersFrom, marksOf, numbersOf, arraysOf, imageOf, isSet, part, countsAt, controlIn, fieldsIn, isImage, sessionOf}
 use Rattle.image.specs.Lent.{imageAfter, serverAfter, clientAfter, Tells}
 use Rattle.image.proofs.Patch.{patched}
+use Rattle.image.proofs.Writing.{front-length}
 use Rattle.image.proofs.Reading.{image-size, no-image, is-image}
 
 -- ---- an arrival that is not refused answers less than 3
@@ -121,10 +122,6 @@ module _ (image octets out other : List ℕ) (d : ℕ) (side : Side) (same : sid
       abbrev numbers : List ℕ
       numbers = numbersFrom (t .control) up′ down′
 
-      head-size : length (marks ++ numbers) ≡ 35
-      unfolding fourOctets
-      head-size = refl
-
       arrays : List ℕ
       arrays = part image 35 16 ++ (part image 51 4 ++ (t .kinds ++ (take 511 lines ++ drop 511 lines)))
 
@@ -143,7 +140,7 @@ module _ (image octets out other : List ℕ) (d : ℕ) (side : Side) (same : sid
       unfolding serverAfter clientAfter imageAfter choose arrays
       left image′ e =
           let p = promised .0 in
-          let back = e ∙ (patched image lines room size (marks ++ numbers) (t .kinds) head-size kinds ∙ ap (placed image 0) next-image) in (
+          let back = e ∙ (patched image lines room size (marks ++ numbers) (t .kinds) (front-length live supported (t .control) up′ down′) kinds ∙ ap (placed image 0) next-image) in (
             (
               record { answer = ap (λ (k : Called). k .answer) p; taken = ap (λ (k : Called). k .taken) p; written = ap (λ (k : Called). k .written) p },
               back ∙ (ap (λ (k : Called). placed image 0 (imageOf (k .session))) p ∙ sym (rw below)),

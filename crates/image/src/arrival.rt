@@ -36,7 +36,8 @@ pub fn arrive_at(
         ⌜ Tells r (o .called) × (now (image .exit) ≡ imageAfter (now (image .entry)) (o .called)) ⌝ }
     ensures { λ r.
         let o = arrivedAt (now (image .entry)) direction (now (octets .entry)) (now («to_server» .entry)) (now («to_client» .entry)) in
-        ⌜ (now («to_server» .exit) ≡ serverAfter o (now («to_server» .entry))) × (now («to_client» .exit) ≡ clientAfter o (now («to_client» .entry))) ⌝ }
+        ⌜ (now («to_server» .exit) ≡ serverAfter o (now («to_server» .entry)))
+        × (now («to_client» .exit) ≡ clientAfter o (now («to_client» .entry))) ⌝ }
 {
     if let Refusal::By(answer) = refusal_at(image, direction) {
         return Told {
@@ -65,7 +66,8 @@ fn take_at(
         ⌜ Tells r (o .called) × (now (image .exit) ≡ imageAfter (now (image .entry)) (o .called)) ⌝ }
     ensures { λ r.
         let o = arrivedAt (now (image .entry)) direction (now (octets .entry)) (now («to_server» .entry)) (now («to_client» .entry)) in
-        ⌜ (now («to_server» .exit) ≡ serverAfter o (now («to_server» .entry))) × (now («to_client» .exit) ≡ clientAfter o (now («to_client» .entry))) ⌝ }
+        ⌜ (now («to_server» .exit) ≡ serverAfter o (now («to_server» .entry)))
+        × (now («to_client» .exit) ≡ clientAfter o (now («to_client» .entry))) ⌝ }
 {
     let from_client = direction == 0;
     let live = image[0] == 1;

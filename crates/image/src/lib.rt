@@ -16,9 +16,10 @@ use records::Control;
 use records::Counts;
 use records::Refusal;
 use records::Session;
-use records::refusal_by;
+use records::refusal_on;
 use rules::Answer;
 use rules::Switches;
+use session::held_line;
 use session::refused_setup;
 use steps::Fixed;
 
@@ -138,7 +139,7 @@ fn put_arrays(out: &mut [u8], at: usize, session: Session) -> usize
     put(out, next, &reply)
 }
 
-// Writes back what a call changes of a record: marks, numbers and kinds. The addresses and the lines stay as they lie.
+// Writes the marks, numbers and kinds of a record back. The addresses stay, and the lines lie there already.
 fn put_back(
     image: &mut [u8],
     live: bool,
@@ -211,8 +212,8 @@ fn fields(image: &[u8]) -> Session
     let client = sixteen(&image[35..51]);
     let mapped = four(&image[51..55]);
     let kinds = sixteen(&image[55..71]);
-    let command = line(&image[71..582]);
-    let reply = line(&image[582..1093]);
+    let command = held_line(&image[71..582]);
+    let reply = held_line(&image[582..1093]);
     let control = control_in(image);
     let up = counts_at(image, 19);
     let down = counts_at(image, 27);
@@ -242,7 +243,7 @@ fn refusal_at(image: &[u8], direction: u8) -> Refusal
     }
     let control = control_in(image);
     let kinds = sixteen(&image[55..71]);
-    refusal_by(image[0] == 1, control, kinds, direction)
+    refusal_on(image[0] == 1, control, kinds, direction)
 }
 
 // What a setup fixed, which a call only reads.
@@ -328,12 +329,4 @@ fn wide(octet: u8) -> u32
     ensures { λ r. ⌜ r ≤ 255 ⌝ }
 {
     octet as u32
-}
-
-fn line(octets: &[u8]) -> [u8; 511]
-    ensures { λ r. ⌜ r ≡ placed (replicate 511 0) 0 (now (octets .entry)) ⌝ }
-{
-    let mut out = [0u8; 511];
-    put(&mut out, 0, octets);
-    out
 }

@@ -32,7 +32,7 @@ isEnded Place.Ended = true
 unfoldable pub soundDirection : Direction → Bool
 soundDirection d = soundHeld (isHolding (d .place)) (d .held)
 
--- number 4 is not given for a record with these marks, control and kinds
+-- number 4 is not given for a record with this mark `live`, this control and these kinds
 abbrev pub soundOf : Bool → Control → List ℕ → Bool
 soundOf live c kinds =
     soundRecord live (c .owed) (every isListed (take (c .owed) kinds)) (soundDirection (c .client)) (soundDirection (c .server))

@@ -118,7 +118,7 @@ fn direction_of(control: Control, number: u8) -> Direction
 }
 
 // What refuses a call on the direction of a number: 3, 4, 6, in this order. These parts of the record decide.
-pub fn refusal_by(live: bool, control: Control, kinds: [u8; 16], direction: u8) -> Refusal
+pub fn refusal_on(live: bool, control: Control, kinds: [u8; 16], direction: u8) -> Refusal
     ensures { λ r. ⌜ r ≡ refusalBy (refusalOn live control kinds direction) ⌝ }
 {
     if 2 <= direction {
@@ -139,5 +139,5 @@ pub fn refusal_of(session: Session, direction: u8) -> Refusal
 {
     let control = session.control;
     let kinds = session.kinds;
-    refusal_by(session.live, control, kinds, direction)
+    refusal_on(session.live, control, kinds, direction)
 }

@@ -42,7 +42,7 @@ fn skip(octets: &[u8], from: usize, x: u8, size: usize) -> usize
     at
 }
 
-// Where the first LF stands at or after `from`, or the end of the octets.
+// Where the first LF stands at or after `from`, or else the end of the octets, or `from` where that lies behind it.
 pub fn find_lf(octets: &[u8], from: usize) -> usize
     ensures { λ r. ⌜ r ≡ from + run (isNot lf) (drop from (now (octets .entry))) ⌝ }
 {

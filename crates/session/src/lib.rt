@@ -262,7 +262,8 @@ pub fn counts_then(
 ) -> BothCounts
     ensures { λ r.
         let d = sideIf «from_client» in
-        ⌜ (r .up ≡ countedBy up (takenFor clientSide d taken) (written .server)) × (r .down ≡ countedBy down (takenFor serverSide d taken) (written .client)) ⌝ }
+        ⌜ (r .up ≡ countedBy up (takenFor clientSide d taken) (written .server))
+        × (r .down ≡ countedBy down (takenFor serverSide d taken) (written .client)) ⌝ }
 {
     let mut from_there = taken;
     let mut from_here = 0;

@@ -97,8 +97,10 @@ pub fn take(
     ensures { λ r.
         let server = now («to_server» .entry) in
         let client = now («to_client» .entry) in
-        let t = tookIn fixed (sideIf «from_client») start (now (lines .entry)) owed (now (octets .entry)) (length server) (length client) in
-        let after = coreIn (r .control) (now (lines .exit)) (r .kinds) (now («to_server» .exit)) (now («to_client» .exit)) (r .written) in
+        let t = tookIn fixed (sideIf «from_client») start (now (lines .entry)) owed (now (octets .entry))
+        (length server) (length client) in
+        let after = coreIn (r .control) (now (lines .exit)) (r .kinds) (now («to_server» .exit)) (now («to_client» .exit))
+        (r .written) in
         ⌜ Given t server client (r .answer) (r .taken) after ⌝ }
 {
     if !holdable(start) {
@@ -121,7 +123,9 @@ pub fn take(
 
 // What is refused as a record that can't be.
 fn nothing_taken(control: Control, kinds: [u8; 16]) -> Taken
-    ensures { λ r. ⌜ r ≡ record { answer = Answer.BadRecord; taken = 0; control = control; kinds = kinds; written = record { server = 0; client = 0 } } ⌝ }
+    ensures { λ r.
+        ⌜ r
+        ≡ record { answer = Answer.BadRecord; taken = 0; control = control; kinds = kinds; written = record { server = 0; client = 0 } } ⌝ }
 {
     Taken {
         answer: Answer::BadRecord,
@@ -151,8 +155,10 @@ fn take_each(
     ensures { λ r.
         let server = now («to_server» .entry) in
         let client = now («to_client» .entry) in
-        let t = takes fixed (sideIf «from_client») (stateIn start (now (lines .entry)) owed) (now (octets .entry)) (length server) (length client) in
-        let after = coreIn (r .control) (now (lines .exit)) (r .kinds) (now («to_server» .exit)) (now («to_client» .exit)) (r .written) in
+        let t = takes fixed (sideIf «from_client») (stateIn start (now (lines .entry)) owed) (now (octets .entry))
+        (length server) (length client) in
+        let after = coreIn (r .control) (now (lines .exit)) (r .kinds) (now («to_server» .exit)) (now («to_client» .exit))
+        (r .written) in
         ⌜ Given t server client (r .answer) (r .taken) after ⌝ }
 {
     let mut control = start;

@@ -47,29 +47,29 @@ part-sixteen-end-2 c = search needs
 sixteen-requires-2 : tie.Need-sixteen-requires-2
 sixteen-requires-2 c κs = search needs
 
-sub-line : tie.Need-sub-line
-sub-line c = search needs
+sub-held-line : tie.Need-sub-held-line
+sub-held-line c = search needs
 
-part-line-start : tie.Need-part-line-start
-part-line-start c = search needs
+part-held-line-start : tie.Need-part-held-line-start
+part-held-line-start c = search needs
 
-part-line-end : tie.Need-part-line-end
-part-line-end c = search needs
+part-held-line-end : tie.Need-part-held-line-end
+part-held-line-end c = search needs
 
-line-requires : tie.Need-line-requires
-line-requires c κs = search needs
+held-line-requires : tie.Need-held-line-requires
+held-line-requires c κs = search needs
 
-sub-line-2 : tie.Need-sub-line-2
-sub-line-2 c = search needs
+sub-held-line-2 : tie.Need-sub-held-line-2
+sub-held-line-2 c = search needs
 
-part-line-start-2 : tie.Need-part-line-start-2
-part-line-start-2 c = search needs
+part-held-line-start-2 : tie.Need-part-held-line-start-2
+part-held-line-start-2 c = search needs
 
-part-line-end-2 : tie.Need-part-line-end-2
-part-line-end-2 c = search needs
+part-held-line-end-2 : tie.Need-part-held-line-end-2
+part-held-line-end-2 c = search needs
 
-line-requires-2 : tie.Need-line-requires-2
-line-requires-2 c κs = search needs
+held-line-requires-2 : tie.Need-held-line-requires-2
+held-line-requires-2 c κs = search needs
 
 control-in-requires : tie.Need-control-in-requires
 control-in-requires c κs = search needs
@@ -89,8 +89,8 @@ returns c =
     (copied image 35 16 (omega arith) (c .before .before .before .before .before .before .before .before .before .before .before .sixteen .ensures))
     (copied image 51 4 (omega arith) (c .before .before .before .before .before .before .before .before .before .four .ensures))
     (copied image 55 16 (omega arith) (c .before .before .before .before .before .before .before .sixteen2 .ensures))
-    (copied image 71 511 (omega arith) (c .before .before .before .before .before .line .ensures))
-    (copied image 582 511 (omega arith) (c .before .before .before .line2 .ensures))
+    (copied image 71 511 (omega arith) (c .before .before .before .before .before .held-line .ensures))
+    (copied image 582 511 (omega arith) (c .before .before .before .held-line2 .ensures))
     (c .before .before .control-in .ensures)
     (c .before .counts-at .ensures)
     (c .counts-at2 .ensures)
@@ -113,14 +113,14 @@ fields-spec =
     part-sixteen-start-2
     part-sixteen-end-2
     sixteen-requires-2
-    sub-line
-    part-line-start
-    part-line-end
-    line-requires
-    sub-line-2
-    part-line-start-2
-    part-line-end-2
-    line-requires-2
+    sub-held-line
+    part-held-line-start
+    part-held-line-end
+    held-line-requires
+    sub-held-line-2
+    part-held-line-start-2
+    part-held-line-end-2
+    held-line-requires-2
     control-in-requires
     counts-at-requires
     counts-at-requires-2

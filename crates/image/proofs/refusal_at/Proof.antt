@@ -20,8 +20,8 @@ control-in-requires c κs = image-size (c .before .before .before .before .args 
 part-sixteen-end : tie.Need-part-sixteen-end
 part-sixteen-end c = omega (arith, image-size (c .before .before .before .before .before .args .image .now) (c .before .before .is-image .ensures) (c .before .if2 .left))
 
-shared-slice-read-refusal-by : tie.Need-shared-slice-read-refusal-by
-shared-slice-read-refusal-by c = omega (arith, image-size (c .before .before .before .before .before .before .before .before .args .image .now) (c .before .before .before .before .before .is-image .ensures) (c .before .before .before .before .if2 .left))
+shared-slice-read-refusal-on : tie.Need-shared-slice-read-refusal-on
+shared-slice-read-refusal-on c = omega (arith, image-size (c .before .before .before .before .before .before .before .before .args .image .now) (c .before .before .before .before .before .is-image .ensures) (c .before .before .before .before .if2 .left))
 
 returns-3 : tie.Need-returns-3
 returns-3 c =
@@ -32,7 +32,7 @@ returns-3 c =
     let size = image-size image found is in
     refused-by-parts image (a .direction) found is (c .before .before .before .before .control-in .ensures)
     (copied image 55 16 (omega arith) (c .before .before .sixteen .ensures))
-    (c .refusal-by .ensures)
+    (c .refusal-on .ensures)
 
 pub refusal-at-spec : {M : Type 1} → statement M
 refusal-at-spec =
@@ -46,6 +46,6 @@ refusal-at-spec =
     (λ c. search needs)
     part-sixteen-end
     (λ c κs. search needs)
-    shared-slice-read-refusal-by
+    shared-slice-read-refusal-on
     (λ c κs. search needs)
     returns-3)

@@ -1,11 +1,11 @@
--- `records::refusal_by` meets its contract, refusal by refusal.
+-- `records::refusal_on` meets its contract, refusal by refusal.
 use mathlib.Core.Path.{sym, ap, _∙_}
 use borrow.Author.Needs.{needs}
 use Rattle.places.specs.declared.Direction.{Direction}
 use Rattle.records.specs.Sound.{isEnded}
 use Rattle.records.proofs.Refusals.{unknown, unsound, over, taken}
-use Rattle.records.proofs.refusal_by.Statement.{statement}
-use Rattle.records.proofs.refusal_by.Tie as tie
+use Rattle.records.proofs.refusal_on.Statement.{statement}
+use Rattle.records.proofs.refusal_on.Tie as tie
 
 returns : tie.Need-returns
 returns c = unknown (c .before .args .direction) _ _ (c .if1 .taken)
@@ -30,8 +30,8 @@ returns-4 : tie.Need-returns-4
 returns-4 c = taken _ _ _ (c .before .before .before .before .before .if1 .left) (c .before .before .before .before .sound .ensures) (c .before .before .before .if2 .left)
     (sym (ap (λ (d : Direction). isEnded (d .place)) (c .before .before .direction-of .ensures)) ∙ sym (c .before .has-ended .ensures) ∙ c .if3 .left)
 
-pub refusal-by-spec : {M : Type 1} → statement M
-refusal-by-spec =
+pub refusal-on-spec : {M : Type 1} → statement M
+refusal-on-spec =
     tie.close
     (tie.spec
     returns
