@@ -46,7 +46,12 @@ fn skip(octets: &[u8], from: usize, x: u8, size: usize) -> usize
 pub fn find_lf(octets: &[u8], from: usize) -> usize
     ensures { λ r. ⌜ r ≡ from + run (isNot lf) (drop from (now (octets .entry))) ⌝ }
 {
-    let a = skip(octets, from, 10, 32);
-    let b = skip(octets, a, 10, 8);
-    find(octets, b, 10)
+    // Fewer than eight octets have no block to go over.
+    if octets.len() < 8 {
+        return find(octets, from, 10);
+    }
+    let a = skip(octets, from, 10, 128);
+    let b = skip(octets, a, 10, 32);
+    let c = skip(octets, b, 10, 8);
+    find(octets, c, 10)
 }
