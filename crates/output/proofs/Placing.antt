@@ -1,12 +1,13 @@
 -- Octets placed in a buffer, and one text placed after another.
 use mathlib.Core.Path.{_≡_, refl, sym, ap, _∙_}
 use mathlib.Core.Bool.{Bool, true, false, not}
-use mathlib.Core.List.{List, [], _++_, append-assoc}
+use mathlib.Core.List.{List, [], _∷_, _++_, append-assoc}
 use Prim.Native.Nat.{ℕ, _+_, _<_, _≤_}
 use native.Mathlib.Nat.{add-assoc, add-zero}
+use native.Mathlib.Numerals.{add-one}
 use native.Mathlib.Omega.{arith}
-use lib.ListN.{length, take, drop, length-append, length-drop, take-append-drop}
-use lib.Seq.{length-take-le, take-add, take-at, drop-append-add, drop-drop}
+use lib.ListN.{length, take, drop, set, getD, length-append, length-drop, take-append-drop}
+use lib.Seq.{length-take-le, take-add, take-at, drop-append-add, drop-drop, set-split}
 use lib.Dec.{leb}
 use borrow.Author.Tests.{le-leb, lt-leb, leb-true, leb-false, not-true, not-false}
 use Rattle.rules.specs.Octets.{choose}
@@ -104,3 +105,14 @@ nothing-placed out at =
     let here : at + 0 ≡ at = add-zero at in
     let all : take at out ++ drop (at + 0) out ≡ out = rw here (take-append-drop at out) in
     (one-way (fitsAt out at []) here, one-way (fitsAt out at []) all)
+
+-- one octet, stored where it is placed
+pub one-placed : (out : List ℕ) (at x : ℕ) → at < length out → set out at x ≡ placed out at (x ∷ [])
+one-placed out at x h =
+    set-split out at x h ∙ ap (λ (j : ℕ). take at out ++ (x ∷ drop j out)) (sym (add-one at))
+    ∙ sym (placed-fits out at (x ∷ []) (omega arith))
+
+pub only-octet : (l : List ℕ) → length l ≡ 1 → l ≡ getD l 0 0 ∷ []
+only-octet [] h = absurd (omega arith)
+only-octet (x ∷ []) h = refl
+only-octet (x ∷ (y ∷ l)) h = absurd (omega arith)

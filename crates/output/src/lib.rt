@@ -27,6 +27,11 @@ pub fn put(out: &mut [u8], at: usize, src: &[u8]) -> usize
     if !has_room(out.len(), at, src.len()) {
         return at;
     }
+    // One octet alone is one store, which costs less than a move.
+    if src.len() == 1 {
+        out[at] = src[0];
+        return at + 1;
+    }
     let mut done = 0;
     while done < src.len() {
         let n = block_length(src.len() - done);

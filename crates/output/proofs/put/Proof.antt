@@ -1,12 +1,12 @@
 -- `output::put` meets its contract. The invariant: the octets of `src` that are done are placed from `at` on.
-use mathlib.Core.Path.{_≡_, refl, _∙_}
+use mathlib.Core.Path.{_≡_, refl, sym, ap, _∙_}
 use Prim.Native.Nat.{_+_, _≤_, _-_}
 use native.Mathlib.Omega.{arith}
 use borrow.Author.Needs.{needs}
-use lib.ListN.{length, take, drop, length-drop}
+use lib.ListN.{length, take, drop, getD, length-drop}
 use lib.Seq.{take-length, length-take-le}
 use Rattle.output.specs.Buffer.{placed}
-use Rattle.output.proofs.Placing.{refused, room, nothing-placed, placed-next, after-fits}
+use Rattle.output.proofs.Placing.{refused, room, nothing-placed, placed-next, after-fits, one-placed, only-octet}
 use Rattle.output.proofs.put.Statement.{statement}
 use Rattle.output.proofs.put.Tie as tie
 
@@ -25,13 +25,41 @@ returns c =
     let a = c .before .before .before .before .args in
     refused (a .out .now) (a .at) (a .src .now) (c .before .has-room .ensures) refl (c .if1 .taken)
 
+shared-slice-read-out : tie.Need-shared-slice-read-out Inv-loop μ-loop
+shared-slice-read-out c = omega arith
+
+slice-write-out : tie.Need-slice-write-out Inv-loop μ-loop
+slice-write-out c =
+    let a = c .before .before .before .before .before .before .args in
+    let fit = room (a .out .now) (a .at) (a .src .now) (c .before .before .before .has-room .ensures) refl (c .before .before .if1 .left) in
+    omega arith
+
+add-result : tie.Need-add-result Inv-loop μ-loop
+add-result c =
+    let a = c .before .before .before .before .before .before .args in
+    let fit = room (a .out .now) (a .at) (a .src .now) (c .before .before .before .has-room .ensures) refl (c .before .before .if1 .left) in
+    let known = c .before .before .before .before .before .before .good in
+    omega arith
+
+same-length : tie.Need-same-length Inv-loop μ-loop
+same-length c = search needs
+
+returns-2 : tie.Need-returns-2 Inv-loop μ-loop
+returns-2 c =
+    let a = c .before .before .before .before .before .before .args in
+    let fit = room (a .out .now) (a .at) (a .src .now) (c .before .before .before .has-room .ensures) refl (c .before .before .if1 .left) in
+    let one = c .before .if2 .taken in (
+      rw (after-fits (a .out .now) (a .at) (a .src .now) fit) (omega arith),
+      one-placed (a .out .now) (a .at) (getD (a .src .now) 0 0) (omega arith) ∙ ap (placed (a .out .now) (a .at)) (sym (only-octet (a .src .now) one)),
+    )
+
 loop-holds : tie.Need-loop-holds Inv-loop μ-loop
 loop-holds c =
-    let a = c .before .before .before .before .args in (
+    let a = c .before .before .before .before .before .args in (
       nothing-placed (a .out .now) (a .at) .1,
       omega arith,
       refl,
-      room (a .out .now) (a .at) (a .src .now) (c .before .has-room .ensures) refl (c .if1 .left),
+      room (a .out .now) (a .at) (a .src .now) (c .before .before .has-room .ensures) refl (c .before .if1 .left),
     )
 
 sub-block-length : tie.Need-sub-block-length Inv-loop μ-loop
@@ -57,7 +85,7 @@ part-put-block-end c = omega arith
 
 put-block-requires : tie.Need-put-block-requires Inv-loop μ-loop
 put-block-requires c κs =
-    let src = c .before .before .before .before .before .before .before .before .before .args .src .now in
+    let src = c .before .before .before .before .before .before .before .before .before .before .args .src .now in
     let done = c .before .before .before .before .loop .done in
     let n = c .before .before .block-length .result in
     let same : done + n - done ≡ n = omega arith in
@@ -72,7 +100,7 @@ loop-less c = omega arith
 
 loop-again : tie.Need-loop-again Inv-loop μ-loop
 loop-again c =
-    let a = c .before .before .before .before .before .before .before .before .before .before .before .before .args in
+    let a = c .before .before .before .before .before .before .before .before .before .before .before .before .before .args in
     let l = c .before .before .before .before .before .before .before .loop in
     let n = c .before .before .before .before .before .block-length .result in
     let same : l .done + n - l .done ≡ n = omega arith in
@@ -83,15 +111,15 @@ loop-again c =
       l .inv .3,
     )
 
-add-result : tie.Need-add-result Inv-loop μ-loop
-add-result c = omega arith
+add-result-2 : tie.Need-add-result-2 Inv-loop μ-loop
+add-result-2 c = omega arith
 
-same-length : tie.Need-same-length Inv-loop μ-loop
-same-length c = omega arith
+same-length-2 : tie.Need-same-length-2 Inv-loop μ-loop
+same-length-2 c = omega arith
 
-returns-2 : tie.Need-returns-2 Inv-loop μ-loop
-returns-2 c =
-    let a = c .before .before .before .before .before .before .args in
+returns-3 : tie.Need-returns-3 Inv-loop μ-loop
+returns-3 c =
+    let a = c .before .before .before .before .before .before .before .args in
     let l = c .before .loop in
     let all : l .done ≡ length (a .src .now) = omega arith in (
       rw (after-fits (a .out .now) (a .at) (a .src .now) (l .inv .3)) (omega arith),
@@ -106,6 +134,11 @@ put-spec =
     μ-loop
     has-room-requires
     returns
+    shared-slice-read-out
+    slice-write-out
+    add-result
+    same-length
+    returns-2
     loop-holds
     sub-block-length
     block-length-requires
@@ -118,6 +151,6 @@ put-spec =
     add-done
     loop-less
     loop-again
-    add-result
-    same-length
-    returns-2)
+    add-result-2
+    same-length-2
+    returns-3)
