@@ -5,7 +5,7 @@ use mathlib.Core.Option.{Option, none, some}
 use Prim.Native.Nat.{ℕ, _<_, _≤_}
 use native.Mathlib.Omega.{arith}
 use lib.Dec.{leb}
-use borrow.Author.Tests.{le-leb, lt-leb, leb-true, eqb-true, not-true, not-false}
+use borrow.Author.Tests.{le-leb, lt-leb, leb-true, eqb-true, ne-eqb, not-true, not-false}
 use Rattle.rules.specs.Octets.{choose}
 use Rattle.rules.specs.Lines.{judged}
 use Rattle.rules.specs.Answers.{mostOwed, soundHeld, soundRecord, refusal}
@@ -45,6 +45,20 @@ place-holding Place.Ended e = absurd (false≢true e)
 pub at-place : (d : Direction) {p : Place} → d .place ≡ p → soundHeld (isHolding p) (d .held) ≡ soundDirection d
 unfolding soundDirection
 at-place d e = sym (ap (λ (q : Place). soundHeld (isHolding q) (d .held)) e)
+
+-- where nothing is held, it does not matter
+pub none-held : (d : Direction) → d .held ≡ 0 → true ≡ soundDirection d
+unfolding soundDirection soundHeld choose judged
+none-held d e = either (isHolding (d .place))
+  where
+    either : (b : Bool) → true ≡ soundHeld b (d .held)
+    either true = sym (le-leb (d .held) 511 (omega arith))
+    either false = rw e
+
+-- and some octets are held only where they may be
+pub some-held : (d : Direction) {p : Place} → d .place ≡ p → isHolding p ≡ false → (d .held ≡ 0 → ⊥) → false ≡ soundDirection d
+unfolding soundHeld choose
+some-held d {p} e never there = sym (ne-eqb (d .held) 0 there) ∙ (ap (λ (b : Bool). soundHeld b (d .held)) (sym never) ∙ at-place d e)
 
 -- the tests of a record, in the code's order; each knows that those before it did not fail
 module _ (live : Bool) (owed : ℕ) (k c s : Bool) where

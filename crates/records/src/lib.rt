@@ -61,16 +61,19 @@ fn kinds_listed(kinds: [u8; 16], owed: usize) -> bool
     true
 }
 
-// A direction holds octets only where it may, and not too many.
+// A direction holds octets only where it may, and not too many. Mostly none are held, which decides it.
 fn sound_direction(direction: Direction) -> bool
     ensures { λ r. ⌜ r ≡ soundDirection direction ⌝ }
 {
+    if direction.held == 0 {
+        return true;
+    }
     let place = direction.place;
     match place {
         Place::Holding => direction.held <= 511,
-        Place::Flowing => direction.held == 0,
-        Place::Passing => direction.held == 0,
-        Place::Ended => direction.held == 0,
+        Place::Flowing => false,
+        Place::Passing => false,
+        Place::Ended => false,
     }
 }
 
