@@ -1,6 +1,6 @@
 -- A line by its parts, as the code reads them.
-use mathlib.Core.Path.{_≡_, sym}
-use mathlib.Core.Bool.{Bool, false}
+use mathlib.Core.Path.{_≡_, refl, sym}
+use mathlib.Core.Bool.{Bool, true, false}
 use mathlib.Core.List.{List}
 use Prim.Native.Nat.{ℕ, _<_}
 use native.Mathlib.Omega.{arith}
@@ -12,6 +12,7 @@ use Rattle.rules.specs.Commands.{commandWord, wordCommand, command}
 use Rattle.rules.specs.declared.Switches.{Switches}
 use Rattle.rules.specs.declared.CommandWord.{CommandWord}
 use Rattle.rules.specs.declared.Command.{Command}
+use Rattle.commands.specs.Plain.{isOther, isPlain}
 use Rattle.octets.proofs.Words.{alike-lengths}
 
 -- a line of under five octets does not start with AUTH and a space
@@ -23,3 +24,21 @@ auth-short l h = rw (take-all 5 l (omega arith)) (sym (alike-lengths l (oct "AUT
 pub by-word : (client : List ℕ) (supported : Bool) (sw : Switches) (l : List ℕ) {t a : List ℕ} {k : CommandWord} → t ≡ content l → a ≡ argument t → k ≡ commandWord (word t) → wordCommand client supported sw k a ≡ command client supported sw l
 unfolding command
 by-word client supported sw l et ea ek = rw (ek, ea, et)
+
+-- whether that line is plain
+pub by-plain : (l : List ℕ) {t : List ℕ} {k : CommandWord} → t ≡ content l → k ≡ commandWord (word t) → isOther k ≡ isPlain l
+unfolding isPlain
+by-plain l et ek = rw (ek, et)
+
+other-passes : (client : List ℕ) (supported : Bool) (sw : Switches) (k : CommandWord) (a : List ℕ) → isOther k ≡ true → wordCommand client supported sw k a ≡ Command.Passes
+unfolding wordCommand isOther
+other-passes client supported sw CommandWord.Epsv a h = cc
+other-passes client supported sw CommandWord.Eprt a h = cc
+other-passes client supported sw CommandWord.Algs a h = cc
+other-passes client supported sw CommandWord.Auth a h = cc
+other-passes client supported sw CommandWord.Other a h = refl
+
+-- a plain line passes, whoever the client is and whatever is on
+pub plain-passes : (client : List ℕ) (supported : Bool) (switches : Switches) (line : List ℕ) → isPlain line ≡ true → command client supported switches line ≡ Command.Passes
+unfolding command isPlain
+plain-passes client supported switches line h = other-passes client supported switches (commandWord (word (content line))) (argument (content line)) h

@@ -7,6 +7,7 @@ ghost use lib.ListN.{length};
 ghost use Rattle.rules.specs.Octets.{choose, every, digit, value};
 ghost use Rattle.rules.specs.Lines.{word as wordOf, startsAuth};
 ghost use Rattle.rules.specs.Commands.{commandWord, epsvCommand, epsvArgument, eprtCommand, eprtArgument, algsCommand, algsArgument, command as commandOf};
+ghost use Rattle.commands.specs.Plain.{isPlain};
 use rules::AlgsArgument;
 use rules::Command;
 use rules::CommandWord;
@@ -48,6 +49,16 @@ pub fn content_word(content: &[u8]) -> CommandWord
         }
     }
     command_word(&content[..4])
+}
+
+// Whether a line judged whole has none of the words looked for, so that it passes whatever the switches are.
+pub fn is_plain(line: &[u8]) -> bool
+    ensures { λ r. ⌜ r ≡ isPlain (now (line .entry)) ⌝ }
+{
+    match content_word(lines::content(line)) {
+        CommandWord::Other => true,
+        _ => false,
+    }
 }
 
 // What the argument of EPSV asks for.

@@ -1,0 +1,2 @@
+-- Lines of no word that the gateway looks for.
+pub mod Plain
