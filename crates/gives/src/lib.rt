@@ -62,8 +62,8 @@ fn put_octet(out: &mut [u8], at: usize, x: u8) -> usize
     output::put(out, at, &[x])
 }
 
-// The held octets and one more, where all have room.
-fn put_line(out: &mut [u8], at: usize, held: &[u8], x: u8) -> usize
+// A line's octets and one more behind them, all or nothing; the next place.
+pub fn put_line(out: &mut [u8], at: usize, held: &[u8], x: u8) -> usize
     ensures { λ r. ⌜ r ≡ placeAfter (now (out .entry)) at (now (held .entry) ++ (x ∷ [])) ⌝ }
     ensures { λ r. ⌜ now (out .exit) ≡ placed (now (out .entry)) at (now (held .entry) ++ (x ∷ [])) ⌝ }
 {

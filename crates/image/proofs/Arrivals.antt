@@ -6,8 +6,8 @@ use mathlib.Core.Option.{Option, none, some}
 use Prim.Native.Nat.{ℕ, _+_, _-_, _≤_}
 use native.Mathlib.Omega.{arith}
 use lib.Dec.{leb}
-use lib.ListN.{length, take, drop, length-append, length-drop}
-use lib.Seq.{length-take-le, take-add, take-take, drop-at, drop-drop}
+use lib.ListN.{length, take, drop, length-drop, take-append-drop}
+use lib.Seq.{length-take-le, take-all, take-take, drop-drop}
 use borrow.Rule.Slice.PartMut.{putMid}
 use Rattle.rules.specs.Octets.{choose}
 use Rattle.rules.specs.Answers.{Side, client, server, sideOf, answerNumber, soundRecord, refusal, stop}
@@ -20,10 +20,10 @@ use Rattle.records.specs.declared.Refusal.{Refusal}
 use Rattle.records.specs.Sound.{sound, refusalOf, refusalBy}
 use Rattle.records.proofs.Refusals.{refusal-cases, by-answer, countable}
 use Rattle.steps.specs.declared.Fixed.{Fixed}
-use Rattle.steps.specs.declared.Written.{Written}
 use Rattle.steps.specs.declared.Taken.{Taken}
 use Rattle.steps.specs.Steps.{State, octetStep}
-use Rattle.steps.specs.Takes.{Took, takes, tookNothing, unlessStopped, stopOf, tookIn, stateFrom, stateIn, coreIn, Given}
+use Rattle.steps.specs.Takes.{Took, takes, unlessStopped, stopOf, tookIn, commandIn, replyIn, stateFrom, addressesLent, fixedLent, kindsLent, linesLent, stateLent, coreLent, Given, Counted}
+use Rattle.steps.proofs.Lent.{from-front, fixed-same}
 use Rattle.steps.proofs.Takes.{took-all, counts-holdable}
 use Rattle.session.specs.declared.Called.{Called}
 use Rattle.session.specs.Calls.{Outcome, counted, takenFor, fixedOf, stateOf, sessionAfter, deadSession, refused, unlessRefused, arrived}
@@ -49,18 +49,56 @@ unfolding takes stopOf answerNumber
 takes-below f d s [] m n = refl
 takes-below f d s (x ∷ xs) m n = stopped-below _ _ s _ (takes-below f d (octetStep f d s x .state) xs _ _)
 
--- ---- the two lines as they lie in an image
+-- ---- the arrays as they lie in an image
 
-pub lines-lie : (image : List ℕ) (c : Control) (kinds : List ℕ) → 1093 ≤ length image
-    → stateIn c (part image 71 1022) kinds ≡ stateFrom c (part image 71 511) (part image 582 511) kinds
-lines-lie image c kinds room =
-    let l = drop 71 image in
-    let long = length-drop 71 image in
-    let first = take-take 511 1022 l (omega arith) in
-    let second : drop 511 (take 1022 l) ≡ part image 582 511 =
-    ap (drop 511) (take-add 511 511 l)
-    ∙ (drop-at (take 511 l) (take 511 (drop 511 l)) 511 (length-take-le 511 l (omega arith)) ∙ ap (take 511) (drop-drop 511 71 image)) in
-    λ i. stateFrom c (first i) (second i) kinds
+-- a part of a part
+inside : (l : List ℕ) (n b m : ℕ) → n ≤ length l → b + m ≤ n → take m (drop b (take n l)) ≡ take m (drop b l)
+inside l n b m h g =
+    let size = length-take-le n l h in
+    from-front b m (take n l) (omega arith) ∙ (ap (drop b) (take-take (b + m) n l g) ∙ sym (from-front b m l (omega arith)))
+
+module _ (image : List ℕ) (room : 1093 ≤ length image) where
+  abbrev pub lent : List ℕ
+  lent = part image 35 1058
+
+  abbrev rest : List ℕ
+  rest = drop 35 image
+
+  long : 1058 ≤ length rest
+  long = omega (arith, length-drop 35 image)
+
+  pub lent-size : length lent ≡ 1058
+  lent-size = length-take-le 1058 rest long
+
+  lies : (b m : ℕ) → b + m ≤ 1058 → take m (drop b lent) ≡ part image (35 + b) m
+  lies b m h = inside rest 1058 b m long h ∙ ap (take m) (drop-drop b 35 image)
+
+  pub client-lies : take 16 lent ≡ part image 35 16
+  client-lies = lies 0 16 (omega arith)
+
+  pub mapped-lies : take 4 (drop 16 lent) ≡ part image 51 4
+  mapped-lies = lies 16 4 (omega arith)
+
+  pub fixed-lies : (supported : Bool) → fixedLent supported lent ≡ record { client = part image 35 16; mapped = part image 51 4; supported = supported }
+  fixed-lies supported = λ i. record { client = client-lies i; mapped = mapped-lies i; supported = supported }
+
+  pub state-lies : (c : Control) → stateLent c lent ≡ stateFrom c (part image 71 511) (part image 582 511) (part image 55 16)
+  state-lies c =
+      let command = lies 36 511 (omega arith) in
+      let whole = take-all 511 (drop 547 lent) (omega (arith, length-drop 547 lent, lent-size)) in
+      let reply = drop-drop 511 36 lent ∙ (sym whole ∙ lies 547 511 (omega arith)) in
+      let kinds = lies 20 16 (omega arith) in
+      λ i. stateFrom c (command i) (reply i) (kinds i)
+
+-- octets of the number that are lent, as the arrays of a record
+pub arrays-lent : (l : List ℕ) → take 16 l ++ (take 4 (drop 16 l) ++ (kindsLent l ++ (commandIn (linesLent l) ++ replyIn (linesLent l)))) ≡ l
+arrays-lent l =
+    ap (λ (r : List ℕ). take 16 l ++ (take 4 (drop 16 l) ++ (kindsLent l ++ r))) (take-append-drop 511 (linesLent l))
+    ∙ (ap (λ (r : List ℕ). take 16 l ++ (take 4 (drop 16 l) ++ r))
+    (ap (λ (r : List ℕ). kindsLent l ++ r) (sym (drop-drop 16 20 l)) ∙ take-append-drop 16 (drop 20 l))
+    ∙ (ap (λ (r : List ℕ). take 16 l ++ r)
+    (ap (λ (r : List ℕ). take 4 (drop 16 l) ++ r) (sym (drop-drop 4 16 l)) ∙ take-append-drop 4 (drop 16 l))
+    ∙ take-append-drop 16 l))
 
 -- ---- what an arrival leaves
 
@@ -77,24 +115,22 @@ module _ (image octets out other : List ℕ) (d : ℕ) (side : Side) (same : sid
   abbrev whole : Took
   whole = takes (fixedOf s) side (stateOf s) octets (length out) (length other)
 
-  pub lent-all : (f : Fixed) (c : Control) (kinds : List ℕ)
-      → f ≡ record { client = part image 35 16; mapped = part image 51 4; supported = isSet image 1 } → c ≡ controlIn image → kinds ≡ part image 55 16
-      → tookIn f side c (part image 71 1022) kinds octets (length out) (length other) ≡ whole
+  pub lent-all : (supported : Bool) (c : Control) → supported ≡ isSet image 1 → c ≡ controlIn image
+      → tookIn supported side c (lent image room) octets (length out) (length other) ≡ whole
   unfolding fieldsIn
-  lent-all f c kinds ef ec ek =
+  lent-all supported c es ec =
       let k = countable s d free in
-      let size : length (part image 71 1022) ≡ 1022 = length-take-le 1022 (drop 71 image) (omega (arith, length-drop 71 image)) in
-      (λ i. tookIn (ef i) side (ec i) (part image 71 1022) (ek i) octets (length out) (length other))
-      ∙ (took-all (fixedOf s) side (s .control) (part image 71 1022) (s .kinds) octets (length out) (length other)
-      (counts-holdable (s .control) (k .owed) (k .command) (k .reply)) size
-      ∙ ap (λ (t : State). takes (fixedOf s) side t octets (length out) (length other)) (lines-lie image (s .control) (s .kinds) room))
+      (λ i. tookIn (es i) side (ec i) (lent image room) octets (length out) (length other))
+      ∙ (took-all (s .supported) side (s .control) (lent image room) octets (length out) (length other)
+      (counts-holdable (s .control) (k .owed) (k .command) (k .reply)) (lent-size image room)
+      ∙ (λ i. takes (fixed-lies image room (s .supported) i) side (state-lies image room (s .control) i) octets (length out) (length other)))
 
-  -- t is what `take` returned, and lines the two lines then
-  module _ (took : Took) (all : took ≡ whole) (t : Taken) (lines out′ other′ : List ℕ)
-      (given : Given took out other (t .answer) (t .taken) (coreIn (t .control) lines (t .kinds) out′ other′ (t .written)))
-      (size : length lines ≡ 1022) (kinds : length (t .kinds) ≡ 16) where
+  -- t is what `take` returned, and arrays what was lent then
+  module _ (took : Took) (all : took ≡ whole) (t : Taken) (arrays out′ other′ : List ℕ)
+      (given : Given took out other (t .answer) (t .taken) (coreLent (t .control) arrays out′ other′ (t .written)))
+      (addresses : addressesLent arrays ≡ addressesLent (lent image room)) (size : length arrays ≡ 1058) where
     abbrev next : Session
-    next = sessionAfter s side (t .taken) (t .written .server) (t .written .client) (stateIn (t .control) lines (t .kinds))
+    next = sessionAfter s side (t .taken) (t .written .server) (t .written .client) (stateLent (t .control) arrays)
 
     abbrev called : Called
     called = record { answer = t .answer; taken = t .taken; written = t .written; session = next }
@@ -122,25 +158,25 @@ module _ (image octets out other : List ℕ) (d : ℕ) (side : Side) (same : sid
       abbrev numbers : List ℕ
       numbers = numbersFrom (t .control) up′ down′
 
-      arrays : List ℕ
-      arrays = part image 35 16 ++ (part image 51 4 ++ (t .kinds ++ (take 511 lines ++ drop 511 lines)))
-
       next-image : (marks ++ numbers) ++ arrays ≡ imageOf next
-      unfolding imageOf marksOf numbersOf arraysOf sessionAfter fieldsIn arrays
+      unfolding imageOf marksOf numbersOf arraysOf sessionAfter fieldsIn
       next-image =
           let u : up′ ≡ counted (countsAt image 19) (takenFor client side (t .taken)) (t .written .server) =
           eu′ ∙ ap (λ (k : Counts). counted k (takenFor client side (t .taken)) (t .written .server)) eu in
           let v : down′ ≡ counted (countsAt image 27) (takenFor server side (t .taken)) (t .written .client) =
           ed′ ∙ ap (λ (k : Counts). counted k (takenFor server side (t .taken)) (t .written .client)) ed in
+          let kept = fixed-same arrays size (lent image room) (lent-size image room) addresses true ∙ fixed-lies image room true in
+          let same : arrays ≡ part image 35 16 ++ (part image 51 4 ++ (kindsLent arrays ++ (commandIn (linesLent arrays) ++ replyIn (linesLent arrays)))) =
+          sym (arrays-lent arrays) ∙ (λ i. kept i .client ++ (kept i .mapped ++ (kindsLent arrays ++ (commandIn (linesLent arrays) ++ replyIn (linesLent arrays))))) in
           append-assoc marks numbers arrays
-          ∙ (λ i. marksFrom (el i) (es i) (t .control) ++ (numbersFrom (t .control) (u i) (v i) ++ arrays))
+          ∙ (λ i. marksFrom (el i) (es i) (t .control) ++ (numbersFrom (t .control) (u i) (v i) ++ same i))
 
-      pub left : (image′ : List ℕ) → image′ ≡ placed (placed (putMid 71 1022 image lines) 0 (marks ++ numbers)) 55 (t .kinds)
+      pub left : (image′ : List ℕ) → image′ ≡ placed (putMid 35 1058 image arrays) 0 (marks ++ numbers)
           → Left o (record { answer = t .answer; taken = t .taken; written = t .written }) image image′ out out′ other other′
-      unfolding serverAfter clientAfter imageAfter choose arrays
+      unfolding serverAfter clientAfter imageAfter choose
       left image′ e =
           let p = promised .0 in
-          let back = e ∙ (patched image lines room size (marks ++ numbers) (t .kinds) (front-length live supported (t .control) up′ down′) kinds ∙ ap (placed image 0) next-image) in (
+          let back = e ∙ (patched image arrays (marks ++ numbers) room size (front-length live supported (t .control) up′ down′) ∙ ap (placed image 0) next-image) in (
             (
               record { answer = ap (λ (k : Called). k .answer) p; taken = ap (λ (k : Called). k .taken) p; written = ap (λ (k : Called). k .written) p },
               back ∙ (ap (λ (k : Called). placed image 0 (imageOf (k .session))) p ∙ sym (rw below)),
@@ -189,3 +225,10 @@ module _ (image : List ℕ) (d : ℕ) (free : refusalOf (sessionOf image) d ≡ 
 
   pub free-fields : fieldsIn image ≡ sessionOf image
   free-fields = is-image image {b = isImage image} refl (by-test (isImage image) refl)
+
+  -- and its counts are some that the arrays can hold
+  pub free-counts : {c : Control} → c ≡ controlIn image → Counted c
+  unfolding fieldsIn
+  free-counts e =
+      let k = countable (fieldsIn image) d (subst (λ (s : Session). refusalOf s d ≡ none) (sym free-fields) free) in
+      subst Counted (sym e) (record { owed = k .owed; command = k .command; reply = k .reply })

@@ -1,5 +1,5 @@
 -- The parts of an image written one after another, and their length.
-use mathlib.Core.Path.{_≡_, refl}
+use mathlib.Core.Path.{_≡_, refl, subst}
 use mathlib.Core.Bool.{Bool}
 use mathlib.Core.List.{List, _++_}
 use Prim.Native.Nat.{ℕ}
@@ -10,12 +10,19 @@ use Rattle.output.proofs.Placing.{Wrote, joined}
 use Rattle.records.specs.declared.Control.{Control}
 use Rattle.records.specs.declared.Counts.{Counts}
 use Rattle.records.specs.declared.Session.{Session}
-use Rattle.image.specs.Image.{Sized, imageSize, fourOctets, marksFrom, numbersFrom, marksOf, numbersOf, arraysOf, imageOf}
+use Rattle.image.specs.Image.{Sized, imageSize, capped, fourOctets, marksFrom, numbersBy, numbersFrom, marksOf, numbersOf, arraysOf, imageOf}
 
 -- a part that was put, and those behind it
 pub andThen : (out : List ℕ) (at : ℕ) (a b : List ℕ) {after last : List ℕ} {next end : ℕ} → Wrote out at a next after
     → PlacedInRoom after next b end last → PlacedInRoom out at (a ++ b) end last
 andThen out at a b one rest = joined out at a b (λ room. one) rest
+
+-- numbers that were put, where they are the counts of a control in 32 bits
+pub numbers-put : (out : List ℕ) (at : ℕ) (c : Control) (up down : Counts) {owed command reply end : ℕ} {last : List ℕ} → owed ≡ capped (c .owed)
+    → command ≡ capped (c .client .held) → reply ≡ capped (c .server .held)
+    → PlacedInRoom out at (numbersBy owed command reply up down) end last → PlacedInRoom out at (numbersFrom c up down) end last
+numbers-put out at c up down {end = end} {last = last} eo ec er =
+    subst (λ (l : List ℕ). PlacedInRoom out at l end last) (λ i. numbersBy (eo i) (ec i) (er i) up down)
 
 pub front-length : (live supported : Bool) (c : Control) (up down : Counts) → length (marksFrom live supported c ++ numbersFrom c up down) ≡ 35
 unfolding fourOctets

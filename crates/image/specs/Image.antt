@@ -48,15 +48,20 @@ marksFrom live supported c =
 unfoldable pub marksOf : Session → List ℕ
 marksOf s = marksFrom (s .live) (s .supported) (s .control)
 
-abbrev pub numbersFrom : Control → Counts → Counts → List ℕ
-numbersFrom c up down =
-    fourOctets (capped (c .owed))
-    ++ (fourOctets (capped (c .client .held))
-    ++ (fourOctets (capped (c .server .held))
+-- the replies owed, the octets held of both lines, and what is counted
+abbrev pub numbersBy : ℕ → ℕ → ℕ → Counts → Counts → List ℕ
+numbersBy owed command reply up down =
+    fourOctets owed
+    ++ (fourOctets command
+    ++ (fourOctets reply
     ++ (fourOctets (up .taken)
     ++ (fourOctets (up .written)
     ++ (fourOctets (down .taken)
     ++ fourOctets (down .written))))))
+
+-- the same of a control, each count in 32 bits
+abbrev pub numbersFrom : Control → Counts → Counts → List ℕ
+numbersFrom c up down = numbersBy (capped (c .owed)) (capped (c .client .held)) (capped (c .server .held)) up down
 
 unfoldable pub numbersOf : Session → List ℕ
 numbersOf s = numbersFrom (s .control) (s .up) (s .down)

@@ -1,4 +1,4 @@
-// An arrival on the record where it lies: marks and numbers are read and written back, and the lines are used in place.
+// An arrival on the record where it lies: marks and numbers are read and written back, and the arrays are used in place.
 ghost use mathlib.Core.Path.{_≡_};
 ghost use mathlib.Core.Option.{none};
 ghost use Rattle.records.specs.Sound.{refusalOf};
@@ -6,10 +6,8 @@ ghost use Rattle.image.specs.Image.{sessionOf};
 ghost use Rattle.image.specs.Lent.{arrivedAt, imageAfter, serverAfter, clientAfter, Tells};
 use crate::control_in;
 use crate::counts_at;
-use crate::fixed_in;
 use crate::put_back;
 use crate::refusal_at;
-use output::sixteen;
 use records::Refusal;
 use rules::Answer;
 use session::counts_then;
@@ -72,29 +70,25 @@ fn take_at(
     let from_client = direction == 0;
     let live = image[0] == 1;
     let supported = image[1] == 1;
-    let fixed = fixed_in(image);
     let control = control_in(image);
     let up = counts_at(image, 19);
     let down = counts_at(image, 27);
-    let kinds = sixteen(&image[55..71]);
     let t = take(
-        fixed,
+        supported,
         from_client,
         control,
-        kinds,
         octets,
-        &mut image[71..1093],
+        &mut image[35..1093],
         to_server,
         to_client,
     );
     let then = t.control;
-    let left = t.kinds;
     let written = t.written;
     let answer = t.answer;
     let counts = counts_then(up, down, from_client, t.taken, written);
     let sent = counts.up;
     let answered = counts.down;
-    put_back(image, live, supported, then, left, sent, answered);
+    put_back(image, live, supported, then, sent, answered);
     Told {
         answer,
         taken: t.taken,

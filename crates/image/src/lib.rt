@@ -2,11 +2,12 @@
 ghost use mathlib.Core.Path.{_≡_};
 ghost use Prim.Native.Nat.{_+_, _≤_};
 ghost use mathlib.Core.List.{_++_};
-ghost use lib.ListN.{length, replicate};
+ghost use lib.ListN.{length};
 ghost use Rattle.output.specs.Buffer.{placed, placeAfter, PlacedInRoom};
 ghost use Rattle.records.specs.Sound.{refusalOf, refusalBy};
 ghost use Rattle.session.specs.Calls.{deadSession};
-ghost use Rattle.image.specs.Image.{bit as bitOf, placeNumber, fourOctets, capped as cappedAt, marksFrom, numbersFrom, arraysOf, imageOf, placeOf, numberAt, countsAt, controlIn, fieldsIn, isSet, part, atMost, isImage, sessionOf};
+ghost use Rattle.steps.specs.Takes.{Counted};
+ghost use Rattle.image.specs.Image.{bit as bitOf, placeNumber, fourOctets, capped as cappedAt, marksFrom, numbersBy, numbersFrom, arraysOf, imageOf, placeOf, numberAt, countsAt, controlIn, fieldsIn, atMost, isImage, sessionOf};
 use output::four;
 use output::put;
 use output::sixteen;
@@ -21,7 +22,6 @@ use rules::Answer;
 use rules::Switches;
 use session::held_line;
 use session::refused_setup;
-use steps::Fixed;
 
 mod arrival;
 
@@ -42,7 +42,12 @@ pub fn put_image(image: &mut [u8], session: Session)
     let up = session.up;
     let down = session.down;
     let marked = put_marks(image, 0, session.live, session.supported, control);
-    let counted = put_numbers(image, marked, control, up, down);
+    let said = control.client;
+    let answered = control.server;
+    let owed = capped(control.owed);
+    let command = capped(said.held);
+    let reply = capped(answered.held);
+    let counted = put_numbers(image, marked, owed, command, reply, up, down);
     put_arrays(image, counted, session);
 }
 
@@ -86,14 +91,21 @@ fn place_number(place: Place) -> u8
     }
 }
 
-fn put_numbers(out: &mut [u8], at: usize, control: Control, up: Counts, down: Counts) -> usize
-    ensures { λ r. ⌜ PlacedInRoom (now (out .entry)) at (numbersFrom control up down) r (now (out .exit)) ⌝ }
+// The replies owed and the octets held of the client's and the server's line, then what is counted.
+fn put_numbers(
+    out: &mut [u8],
+    at: usize,
+    owed: u32,
+    command: u32,
+    reply: u32,
+    up: Counts,
+    down: Counts,
+) -> usize
+    ensures { λ r. ⌜ PlacedInRoom (now (out .entry)) at (numbersBy owed command reply up down) r (now (out .exit)) ⌝ }
 {
-    let client = control.client;
-    let server = control.server;
-    let mut next = put_number(out, at, capped(control.owed));
-    next = put_number(out, next, capped(client.held));
-    next = put_number(out, next, capped(server.held));
+    let mut next = put_number(out, at, owed);
+    next = put_number(out, next, command);
+    next = put_number(out, next, reply);
     next = put_number(out, next, up.taken);
     next = put_number(out, next, up.written);
     next = put_number(out, next, down.taken);
@@ -108,6 +120,14 @@ fn capped(n: usize) -> u32
         return n as u32;
     }
     4294967295
+}
+
+// A count that an array can hold needs no cap: a call writes three of them.
+fn uncapped(n: usize) -> u32
+    requires { ⌜ n ≤ 511 ⌝ }
+    ensures { λ r. ⌜ r ≡ cappedAt n ⌝ }
+{
+    n as u32
 }
 
 // A number in four octets, low octet first.
@@ -139,24 +159,26 @@ fn put_arrays(out: &mut [u8], at: usize, session: Session) -> usize
     put(out, next, &reply)
 }
 
-// Writes the marks, numbers and kinds of a record back. The addresses stay, and the lines lie there already.
+// Writes the marks and numbers of a record back. The arrays lie there already.
 fn put_back(
     image: &mut [u8],
     live: bool,
     supported: bool,
     control: Control,
-    kinds: [u8; 16],
     up: Counts,
     down: Counts,
 )
-    requires { ⌜ 1093 ≤ length (now image) ⌝ }
+    requires { ⌜ (1093 ≤ length (now image)) × Counted control ⌝ }
     ensures { λ _.
-        ⌜ now (image .exit)
-        ≡ placed (placed (now (image .entry)) 0 (marksFrom live supported control ++ numbersFrom control up down)) 55 kinds ⌝ }
+        ⌜ now (image .exit) ≡ placed (now (image .entry)) 0 (marksFrom live supported control ++ numbersFrom control up down) ⌝ }
 {
+    let said = control.client;
+    let answered = control.server;
+    let owed = uncapped(control.owed);
+    let command = uncapped(said.held);
+    let reply = uncapped(answered.held);
     let marked = put_marks(image, 0, live, supported, control);
-    put_numbers(image, marked, control, up, down);
-    put(image, 55, &kinds);
+    put_numbers(image, marked, owed, command, reply, up, down);
 }
 
 // The record of an image. Octets that are no image are a record that number 4 refuses.
@@ -244,26 +266,6 @@ fn refusal_at(image: &[u8], direction: u8) -> Refusal
     let control = control_in(image);
     let kinds = sixteen(&image[55..71]);
     refusal_on(image[0] == 1, control, kinds, direction)
-}
-
-// What a setup fixed, which a call only reads.
-fn fixed_in(image: &[u8]) -> Fixed
-    requires { ⌜ 1093 ≤ length (now image) ⌝ }
-    ensures { λ r.
-        ⌜ r
-        ≡ record {
-          client = part (now (image .entry)) 35 16;
-          mapped = part (now (image .entry)) 51 4;
-          supported = isSet (now (image .entry)) 1;
-        } ⌝ }
-{
-    let client = sixteen(&image[35..51]);
-    let mapped = four(&image[51..55]);
-    Fixed {
-        client,
-        mapped,
-        supported: image[1] == 1,
-    }
 }
 
 fn control_in(image: &[u8]) -> Control

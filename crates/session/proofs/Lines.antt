@@ -1,44 +1,86 @@
--- The record's two lines behind each other in one slice, and back in arrays of their own.
-use mathlib.Core.Path.{_≡_, ap, _∙_}
-use mathlib.Core.List.{List, _++_}
-use Prim.Native.Nat.{ℕ, _+_}
+-- The record's arrays behind each other in one slice, and back in arrays of their own.
+use mathlib.Core.Path.{_≡_, sym, ap, _∙_}
+use mathlib.Core.Bool.{Bool}
+use mathlib.Core.List.{List, _++_, append-assoc}
+use Prim.Native.Nat.{ℕ, _+_, _≤_}
 use native.Mathlib.Omega.{arith}
 use lib.ListN.{length, take, drop, replicate, length-append, length-drop, length-replicate}
-use lib.Seq.{length-take-le, take-all, take-at, drop-at}
+use lib.Seq.{length-take-le, take-all, take-at, drop-at, drop-drop}
 use Rattle.output.specs.Buffer.{placed}
 use Rattle.output.proofs.Placing.{placed-after}
 use Rattle.output.proofs.Front.{filled}
 use Rattle.records.specs.declared.Control.{Control}
-use Rattle.steps.specs.Takes.{stateIn, stateFrom}
+use Rattle.steps.specs.Takes.{stateFrom, fixedLent, stateLent}
 
--- one line is put behind the other
-pub both-laid : (a b : List ℕ) → length a ≡ 511 → length b ≡ 511 → {x y : List ℕ} → x ≡ placed (replicate 1022 0) 0 a → y ≡ placed x 511 b
-    → y ≡ a ++ b
-both-laid a b m n p q =
-    let size = length-append a b in
-    let place : 511 ≡ 0 + length a = omega arith in
-    q ∙ ((λ i. placed (p i) (place i) b)
-    ∙ (placed-after (replicate 1022 0) 0 a b (omega (arith, length-replicate {A = ℕ} 1022 0)) ∙ filled 1022 (a ++ b) (omega arith)))
+-- one array is put behind those that are there
+laid-next : (n : ℕ) (before a : List ℕ) (at : ℕ) → length before ≡ at → at + length a ≤ n → {x y : List ℕ}
+    → x ≡ placed (replicate n 0) 0 before → y ≡ placed x at a → y ≡ placed (replicate n 0) 0 (before ++ a)
+laid-next n before a at size fits p q =
+    let place : at ≡ 0 + length before = omega arith in
+    q ∙ ((λ i. placed (p i) (place i) a)
+    ∙ placed-after (replicate n 0) 0 before a (omega (arith, length-append before a, length-replicate {A = ℕ} n 0)))
 
-pub laid-size : (a b : List ℕ) → length a ≡ 511 → length b ≡ 511 → {lines : List ℕ} → lines ≡ a ++ b → length lines ≡ 1022
-laid-size a b m n e = ap length e ∙ (length-append a b ∙ omega arith)
+module _ (client mapped kinds command reply : List ℕ) (h₁ : length client ≡ 16) (h₂ : length mapped ≡ 4) (h₃ : length kinds ≡ 16)
+    (h₄ : length command ≡ 511) (h₅ : length reply ≡ 511) where
+  abbrev lines : List ℕ
+  lines = command ++ reply
 
--- the state of the two lines laid so
-pub laid-state : (c : Control) (a b kinds : List ℕ) → length a ≡ 511 → {lines : List ℕ} → lines ≡ a ++ b → stateIn c lines kinds ≡ stateFrom c a b kinds
-laid-state c a b kinds m e =
-    ap (λ (l : List ℕ). stateIn c l kinds) e ∙ (λ i. stateFrom c (take-at a b 511 m i) (drop-at a b 511 m i) kinds)
+  abbrev arrays : List ℕ
+  arrays = client ++ (mapped ++ (kinds ++ lines))
 
--- a line that is an array again
-line-back : (l : List ℕ) → length l ≡ 511 → {r : List ℕ} → r ≡ placed (replicate 511 0) 0 l → r ≡ l
-line-back l m e = e ∙ filled 511 l m
+  pub all-laid : {a b c d e : List ℕ} → a ≡ placed (replicate 1058 0) 0 client → b ≡ placed a 16 mapped → c ≡ placed b 20 kinds
+      → d ≡ placed c 36 command → e ≡ placed d 547 reply → e ≡ arrays
+  all-laid p q r s t =
+      let two = client ++ mapped in
+      let three = two ++ kinds in
+      let four = three ++ command in
+      let l₂ = length-append client mapped in
+      let l₃ = length-append two kinds in
+      let l₄ = length-append three command in
+      let l₅ = length-append four reply in
+      let laid = laid-next 1058 four reply 547 (omega arith) (omega arith)
+      (laid-next 1058 three command 36 (omega arith) (omega arith)
+      (laid-next 1058 two kinds 20 (omega arith) (omega arith) (laid-next 1058 client mapped 16 h₁ (omega arith) p q) r) s) t in
+      laid ∙ (filled 1058 (four ++ reply) (omega arith)
+      ∙ (append-assoc three command reply ∙ (append-assoc two kinds lines ∙ append-assoc client mapped (kinds ++ lines))))
 
--- the state of both arrays, as `take` left the two lines
-pub lines-back : (c : Control) (kinds lines : List ℕ) → length lines ≡ 1022 → {a b : List ℕ} → a ≡ placed (replicate 511 0) 0 (take 511 lines)
-    → b ≡ placed (replicate 511 0) 0 (take 511 (drop 511 lines)) → stateFrom c a b kinds ≡ stateIn c lines kinds
-lines-back c kinds lines size p q =
-    let front = length-take-le 511 lines (omega arith) in
-    let back : length (drop 511 lines) ≡ 511 = omega (arith, length-drop 511 lines) in
-    let whole = take-all 511 (drop 511 lines) (omega arith) in
-    let first = line-back (take 511 lines) front p in
-    let second = line-back (take 511 (drop 511 lines)) (ap length whole ∙ back) q ∙ whole in
-    λ i. stateFrom c (first i) (second i) kinds
+  module _ (lent : List ℕ) (e : lent ≡ arrays) where
+    pub laid-size : length lent ≡ 1058
+    laid-size =
+        ap length e
+        ∙ omega (arith, h₁, h₂, h₃, h₄, h₅, length-append client (mapped ++ (kinds ++ lines)), length-append mapped (kinds ++ lines), length-append kinds lines, length-append command reply)
+
+    from-mapped : drop 16 lent ≡ mapped ++ (kinds ++ lines)
+    from-mapped = ap (drop 16) e ∙ drop-at client (mapped ++ (kinds ++ lines)) 16 h₁
+
+    from-kinds : drop 20 lent ≡ kinds ++ lines
+    from-kinds = sym (drop-drop 4 16 lent) ∙ (ap (drop 4) from-mapped ∙ drop-at mapped (kinds ++ lines) 4 h₂)
+
+    from-lines : drop 36 lent ≡ lines
+    from-lines = sym (drop-drop 16 20 lent) ∙ (ap (drop 16) from-kinds ∙ drop-at kinds lines 16 h₃)
+
+    -- what the arrays laid so fix, and their state
+    pub laid-fixed : (supported : Bool) → fixedLent supported lent ≡ record { client = client; mapped = mapped; supported = supported }
+    laid-fixed supported =
+        let first = ap (take 16) e ∙ take-at client (mapped ++ (kinds ++ lines)) 16 h₁ in
+        let second = ap (take 4) from-mapped ∙ take-at mapped (kinds ++ lines) 4 h₂ in
+        λ i. record { client = first i; mapped = second i; supported = supported }
+
+    pub laid-state : (c : Control) → stateLent c lent ≡ stateFrom c command reply kinds
+    laid-state c =
+        let first = ap (take 511) from-lines ∙ take-at command reply 511 h₄ in
+        let second = ap (drop 511) from-lines ∙ drop-at command reply 511 h₄ in
+        let third = ap (take 16) from-kinds ∙ take-at kinds lines 16 h₃ in
+        λ i. stateFrom c (first i) (second i) (third i)
+
+-- the state of the arrays that `take` left, each an array of its own again
+pub arrays-back : (c : Control) (lent : List ℕ) → length lent ≡ 1058 → {k a b : List ℕ} → k ≡ placed (replicate 16 0) 0 (take 16 (drop 20 lent))
+    → a ≡ placed (replicate 511 0) 0 (take 511 (drop 36 lent)) → b ≡ placed (replicate 511 0) 0 (take 511 (drop 547 lent))
+    → stateFrom c a b k ≡ stateLent c lent
+arrays-back c lent size o p q =
+    let kinds = o ∙ filled 16 (take 16 (drop 20 lent)) (length-take-le 16 (drop 20 lent) (omega (arith, length-drop 20 lent))) in
+    let command = p ∙ filled 511 (take 511 (drop 36 lent)) (length-take-le 511 (drop 36 lent) (omega (arith, length-drop 36 lent))) in
+    let rest = length-drop 547 lent in
+    let whole = take-all 511 (drop 547 lent) (omega arith) in
+    let reply = q ∙ (filled 511 (take 511 (drop 547 lent)) (length-take-le 511 (drop 547 lent) (omega arith)) ∙ (whole ∙ sym (drop-drop 511 36 lent))) in
+    λ i. stateFrom c (command i) (reply i) (kinds i)

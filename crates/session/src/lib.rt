@@ -9,6 +9,7 @@ ghost use Rattle.session.specs.Calls.{prepared, startSession, startContr
 ghost use Rattle.output.specs.Buffer.{placed};
 ghost use Rattle.steps.specs.Takes.{stateFrom, sideIf};
 use output::put;
+use output::sixteen;
 use places::Direction;
 use places::Place;
 use records::Control;
@@ -18,8 +19,10 @@ use records::Session;
 use records::refusal_of;
 use rules::Answer;
 use rules::Switches;
-use steps::Fixed;
-use steps::HELD;
+use steps::COMMAND;
+use steps::KINDS;
+use steps::MAPPED;
+use steps::REPLY;
 use steps::Written;
 use steps::take;
 
@@ -140,30 +143,24 @@ pub fn arrive(
     let from_client = direction == 0;
     let client = session.client;
     let mapped = session.mapped;
-    let fixed = Fixed {
-        client,
-        mapped,
-        supported: session.supported,
-    };
     let control = session.control;
     let kinds = session.kinds;
     let said = session.command;
     let answered = session.reply;
-    let mut lines = laid(said, answered);
+    let mut lent = laid(client, mapped, kinds, said, answered);
     let t = take(
-        fixed,
+        session.supported,
         from_client,
         control,
-        kinds,
         octets,
-        &mut lines,
+        &mut lent,
         to_server,
         to_client,
     );
-    let command = held_line(&lines[..HELD]);
-    let reply = held_line(&lines[HELD..]);
+    let left = sixteen(&lent[KINDS..COMMAND]);
+    let command = held_line(&lent[COMMAND..REPLY]);
+    let reply = held_line(&lent[REPLY..]);
     let then = t.control;
-    let left = t.kinds;
     let written = t.written;
     let answer = t.answer;
     Called {
@@ -183,14 +180,25 @@ pub fn arrive(
     }
 }
 
-// The two held lines behind each other, as `take` has them.
-fn laid(command: [u8; 511], reply: [u8; 511]) -> [u8; 1022]
-    ensures { λ r. ⌜ r ≡ command ++ reply ⌝ }
+// The arrays of a record behind each other, as `take` has them.
+fn laid(
+    client: [u8; 16],
+    mapped: [u8; 4],
+    kinds: [u8; 16],
+    command: [u8; 511],
+    reply: [u8; 511],
+) -> [u8; 1058]
+    ensures arrays { λ r. ⌜ r ≡ client ++ (mapped ++ (kinds ++ (command ++ reply))) ⌝ }
+    ensures lengths { λ _.
+        ⌜ (length client ≡ 16) × (length mapped ≡ 4) × (length kinds ≡ 16) × (length command ≡ 511) × (length reply ≡ 511) ⌝ }
 {
-    let mut lines = [0u8; 1022];
-    put(&mut lines, 0, &command);
-    put(&mut lines, HELD, &reply);
-    lines
+    let mut lent = [0u8; 1058];
+    put(&mut lent, 0, &client);
+    put(&mut lent, MAPPED, &mapped);
+    put(&mut lent, KINDS, &kinds);
+    put(&mut lent, COMMAND, &command);
+    put(&mut lent, REPLY, &reply);
+    lent
 }
 
 // A line's octets as an array; zeros where there are more than an array has, and behind fewer.

@@ -2,6 +2,7 @@
 pub mod Stops
 pub mod Fits
 pub mod Shifting
+pub mod Still
 pub mod Settles
 pub mod Turns
 pub mod Octets
@@ -11,3 +12,8 @@ pub mod Quiet
 pub mod Single
 pub mod Runs
 pub mod Parts
+pub mod LineEnds
+pub mod Lent
+pub mod Over
+pub mod PlainLines
+pub mod PlainReplies

@@ -1,29 +1,32 @@
 -- Runs at a place of an arrival, as the code has them: each leads the loop from the state before it to that behind it.
 use mathlib.Core.Path.{_≡_, refl, sym, ap, subst, _∙_}
 use mathlib.Core.Bool.{true}
-use mathlib.Core.List.{List, [], _++_, append-assoc}
-use Prim.Native.Nat.{ℕ, _+_, _-_, _≤_}
+use mathlib.Core.List.{List, [], _∷_, _++_, append-assoc}
+use Prim.Native.Nat.{ℕ, suc, _+_, _-_, _≤_, _<_}
 use native.Mathlib.Nat.{sub-zero}
+use native.Mathlib.Numerals.{add-one}
 use native.Mathlib.Omega.{arith}
-use lib.ListN.{length, take, drop}
-use lib.Seq.{take-take}
+use lib.ListN.{length, take, drop, getD, length-append}
+use lib.Seq.{take-take, drop-cons}
 use Rattle.rules.specs.Octets.{lf, every, isNot, run, front}
 use Rattle.rules.specs.Lines.{judged}
 use Rattle.rules.specs.Answers.{Side, client, server, isQueueFull}
 use Rattle.octets.proofs.Runs.{run-length, every-front, part-rest, part-length}
 use Rattle.output.specs.Buffer.{placed, placeAfter}
-use Rattle.output.proofs.Placing.{length-placed, take-placed, after-fits, nothing-placed}
+use Rattle.output.proofs.Placing.{length-placed, take-placed, after-fits, nothing-placed, placed-after}
 use Rattle.places.specs.declared.Place.{Place}
 use Rattle.places.specs.Places.{at}
 use Rattle.steps.specs.declared.Fixed.{Fixed}
 use Rattle.steps.specs.declared.Written.{Written}
-use Rattle.steps.specs.Steps.{State}
-use Rattle.steps.specs.Takes.{takes, Core, coreFrom}
-use Rattle.steps.specs.Core.{Counted}
+use Rattle.steps.specs.Steps.{State, octetStep}
+use Rattle.steps.specs.Takes.{takes, Core, coreFrom, Counted}
+use Rattle.steps.specs.Core.{Bounded, Stepped, stepFits, octetFits}
 use Rattle.steps.specs.Settled.{Settled}
 use Rattle.steps.specs.Runs.{prefixed, holding, holdsMore, Ran}
 use Rattle.steps.proofs.Takes.{Going, placed-rest}
-use Rattle.steps.proofs.Runs.{Open, passes-run, flows-run, holds-run}
+use Rattle.steps.proofs.Stops.{fits-room}
+use Rattle.steps.proofs.Octets.{core-next}
+use Rattle.steps.proofs.Runs.{Open, one-taken, passes-run, flows-run, holds-run}
 
 -- ---- the loop goes on over a run
 
@@ -99,6 +102,111 @@ ran-none f d l k i h a b =
       core = λ t. coreFrom (k .state) (sb t) (cb t) (record { server = ws t; client = wc t });
       counted = λ c. c;
     }
+
+-- counts that can be held still can behind a run
+pub ran-bounded : (f : Fixed) (d : Side) (l : List ℕ) (k k′ : Core) (i j : ℕ) → Ran f d l k i k′ j
+    → Bounded (k .state .control) (k .written) (k .serverBuffer) (k .clientBuffer)
+    → Bounded (k′ .state .control) (k′ .written) (k′ .serverBuffer) (k′ .clientBuffer)
+ran-bounded f d l k k′ i j ran bounded =
+    let w = k .written in
+    let counts = ran .counted (record { owed = bounded .owed; command = bounded .command; reply = bounded .reply }) in
+    let fs = ran .server in
+    let fc = ran .client in
+    let ws = ap (λ (c : Core). c .written .server) (ran .core) in
+    let wc = ap (λ (c : Core). c .written .client) (ran .core) in
+    let ls = ap (λ (c : Core). length (c .serverBuffer)) (ran .core) ∙ length-placed (k .serverBuffer) (w .server) (ran .toServer) fs in
+    let lc = ap (λ (c : Core). length (c .clientBuffer)) (ran .core) ∙ length-placed (k .clientBuffer) (w .client) (ran .toClient) fc in
+    record { owed = counts .owed; command = counts .command; reply = counts .reply; server = omega arith; client = omega arith }
+
+-- one octet that fits, where number 1 is not given
+pub ran-octet : (f : Fixed) (d : Side) (l : List ℕ) (k k′ : Core) (i x : ℕ) → i < length l → x ≡ getD l i 0
+    → Open d (k .state) → k .written .server ≤ length (k .serverBuffer) → k .written .client ≤ length (k .clientBuffer)
+    → Stepped f d x k true k′ → Ran f d l k i k′ (i + 1)
+unfolding octetFits stepFits
+ran-octet f d l k k′ i x h e queue a b stepped =
+    let w = k .written in
+    let t = octetStep f d (k .state) x in
+    let next = core-next f d x k (sym (stepped .fits)) in
+    let room = fits-room (t .toServer) (t .toClient) (length (k .serverBuffer) - w .server) (length (k .clientBuffer) - w .client) (sym (stepped .fits)) in
+    let roomS = room .0 in
+    let roomC = room .1 in
+    let after : k′ ≡ _ = stepped .core ∙ sym next in
+    let one : i + 1 - i ≡ 1 = omega arith in
+    record {
+      toServer = t .toServer;
+      toClient = t .toClient;
+      forward = omega arith;
+      inside = omega arith;
+      server = omega arith;
+      client = omega arith;
+      rest = λ m n hm hn.
+          let r = takes f d (t .state) (drop (i + 1) l) (m - length (t .toServer)) (n - length (t .toClient)) in
+          (λ j. takes f d (k .state) (drop-cons l i 0 h j) m n)
+          ∙ ((λ j. takes f d (k .state) (sym e j ∷ drop (sym (add-one i) j) l) m n)
+          ∙ (one-taken f d (k .state) x (drop (i + 1) l) m n t refl queue hm hn
+          ∙ ((λ j. record { answer = r .answer; taken = sym (one-more i (r .taken)) j; toServer = t .toServer ++ r .toServer; toClient = t .toClient ++ r .toClient; state = r .state })
+          ∙ (λ j. prefixed (i + 1 - i) (t .toServer) (t .toClient) (takes f d (sym (ap (λ (c : Core). c .state) after) j) (drop (i + 1) l) (m - length (t .toServer)) (n - length (t .toClient)))))));
+      core = after ∙ (λ j. coreFrom (sym (ap (λ (c : Core). c .state) after) j) (placed (k .serverBuffer) (w .server) (t .toServer)) (placed (k .clientBuffer) (w .client) (t .toClient)) (record { server = w .server + length (t .toServer); client = w .client + length (t .toClient) }));
+      counted = λ _. record { owed = stepped .bounded .owed; command = stepped .bounded .command; reply = stepped .bounded .reply };
+    }
+  where
+    one-more : (i n : ℕ) → i + 1 - i + n ≡ suc n
+    one-more i n = omega arith
+
+-- one run, and another behind it
+module _ (f : Fixed) (d : Side) (l : List ℕ) (k k′ k″ : Core) (i j e : ℕ) where
+  pub ran-then : Ran f d l k i k′ j → Ran f d l k′ j k″ e → Ran f d l k i k″ e
+  ran-then r q =
+      let w = k .written in
+      let a = r .toServer in
+      let b = r .toClient in
+      let a′ = q .toServer in
+      let b′ = q .toClient in
+      let fs = r .server in
+      let fc = r .client in
+      let first = r .forward in
+      let second = q .forward in
+      let ls = length-append a a′ in
+      let lc = length-append b b′ in
+      let ss : k′ .serverBuffer ≡ placed (k .serverBuffer) (w .server) a = ap (λ (c : Core). c .serverBuffer) (r .core) in
+      let sc : k′ .clientBuffer ≡ placed (k .clientBuffer) (w .client) b = ap (λ (c : Core). c .clientBuffer) (r .core) in
+      let ws : k′ .written .server ≡ w .server + length a = ap (λ (c : Core). c .written .server) (r .core) in
+      let wc : k′ .written .client ≡ w .client + length b = ap (λ (c : Core). c .written .client) (r .core) in
+      let ns = ap length ss ∙ length-placed (k .serverBuffer) (w .server) a fs in
+      let nc = ap length sc ∙ length-placed (k .clientBuffer) (w .client) b fc in
+      let qs = q .server in
+      let qc = q .client in
+      let rs : w .server + length (a ++ a′) ≤ length (k .serverBuffer) = omega arith in
+      let rc : w .client + length (b ++ b′) ≤ length (k .clientBuffer) = omega arith in
+      let ps = (λ t. placed (ss t) (ws t) a′) ∙ placed-after (k .serverBuffer) (w .server) a a′ rs in
+      let pc = (λ t. placed (sc t) (wc t) b′) ∙ placed-after (k .clientBuffer) (w .client) b b′ rc in
+      let us : k′ .written .server + length a′ ≡ w .server + length (a ++ a′) = omega arith in
+      let uc : k′ .written .client + length b′ ≡ w .client + length (b ++ b′) = omega arith in
+      record {
+        toServer = a ++ a′;
+        toClient = b ++ b′;
+        forward = omega arith;
+        inside = q .inside;
+        server = rs;
+        client = rc;
+        rest = λ m n hm hn.
+            let x : m - length a - length a′ ≡ m - length (a ++ a′) = omega arith in
+            let y : n - length b - length b′ ≡ n - length (b ++ b′) = omega arith in
+            let z = takes f d (k″ .state) (drop e l) (m - length (a ++ a′)) (n - length (b ++ b′)) in
+            let count : j - i + (e - j + z .taken) ≡ e - i + z .taken = omega arith in
+            r .rest m n (omega arith) (omega arith)
+            ∙ (ap (prefixed (j - i) a b) (q .rest (m - length a) (n - length b) (omega arith) (omega arith)
+            ∙ (λ t. prefixed (e - j) a′ b′ (takes f d (k″ .state) (drop e l) (x t) (y t))))
+            ∙ (λ t. record {
+              answer = z .answer;
+              taken = count t;
+              toServer = sym (append-assoc a a′ (z .toServer)) t;
+              toClient = sym (append-assoc b b′ (z .toClient)) t;
+              state = z .state;
+            }));
+        core = q .core ∙ (λ t. coreFrom (k″ .state) (ps t) (pc t) (record { server = us t; client = uc t }));
+        counted = λ c. q .counted (r .counted c);
+      }
 
 -- octets that the client gives on, or the server: out is the buffer then, and next the place behind them
 module _ (f : Fixed) (l : List ℕ) (s : State) (sb cb : List ℕ) (w : Written) (i j : ℕ) (h : i ≤ j) (g : j ≤ length l)

@@ -42,7 +42,7 @@ direction-at d e n = λ i. at (e i) (n i)
 
 -- ---- queues
 
-answers-none : (ks : List Kind) → answersAtHead ks ≡ 0 → headAnswers ks ≡ []
+pub answers-none : (ks : List Kind) → answersAtHead ks ≡ 0 → headAnswers ks ≡ []
 unfolding answersAtHead headAnswers
 answers-none [] e = refl
 answers-none (Kind.Plain ∷ ks) e = refl

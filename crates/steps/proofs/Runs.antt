@@ -44,7 +44,7 @@ none-before r =
       state = r .state;
     }
 
-one-before : (t : Step) (n : ℕ) (a b : List ℕ) (r : Took)
+pub one-before : (t : Step) (n : ℕ) (a b : List ℕ) (r : Took)
     → andThen t (prefixed n a b r) ≡ prefixed (suc n) (t .toServer ++ a) (t .toClient ++ b) r
 one-before t n a b r =
     let count : suc (n + r .taken) ≡ suc n + r .taken = omega arith in
@@ -58,7 +58,7 @@ one-before t n a b r =
 
 module _ (f : Fixed) (d : Side) (s : State) (x : ℕ) (ys : List ℕ) (m n : ℕ) (t : Step) (e : octetStep f d s x ≡ t)
     (queue : Open d s) where
-  one-taken : length (t .toServer) ≤ m → length (t .toClient) ≤ n
+  pub one-taken : length (t .toServer) ≤ m → length (t .toClient) ≤ n
       → takes f d s (x ∷ ys) m n ≡ andThen t
       (takes f d (t .state) ys (m - length (t .toServer)) (n - length (t .toClient)))
   unfolding takes unlessStopped stopOf stop choose fits

@@ -19,8 +19,8 @@ use Rattle.records.specs.declared.Control.{Control}
 use Rattle.steps.specs.declared.Fixed.{Fixed}
 use Rattle.steps.specs.declared.Written.{Written}
 use Rattle.steps.specs.Steps.{State, Step, octetStep}
-use Rattle.steps.specs.Takes.{Took, tookNothing, andThen, unlessStopped, stopOf, takes, holdable, tookIn, Core, Given, stateIn, sideIf, coreFrom, coreTook, isPassing}
-use Rattle.steps.specs.Core.{Bounded, Counted, stepFits, octetFits, octetCore}
+use Rattle.steps.specs.Takes.{Took, tookNothing, andThen, unlessStopped, stopOf, takes, holdable, tookIn, Core, Given, fixedLent, stateLent, sideIf, coreFrom, coreTook, isPassing, Counted}
+use Rattle.steps.specs.Core.{Bounded, stepFits, octetFits, octetCore}
 use Rattle.steps.specs.Runs.{prefixed}
 use Rattle.output.proofs.Placing.{placed-fits, length-placed, take-placed, drop-placed, nothing-placed}
 use Rattle.steps.proofs.Stops.{fits-room}
@@ -228,11 +228,12 @@ module _ (c : Control) where
       let b = and-both (leb (c .owed) 16) (leb (c .client .held) 511) (a .0) in
       record { owed = leb-true (c .owed) 16 (b .0); command = leb-true (c .client .held) 511 (b .1); reply = leb-true (c .server .held) 511 (a .1) }
 
-module _ (f : Fixed) (d : Side) (c : Control) (lines kinds l : List ℕ) where
+module _ (supported : Bool) (d : Side) (c : Control) (lent l : List ℕ) where
   abbrev s : State
-  s = stateIn c lines kinds
+  s = stateLent c lent
 
-  pub took-all : (m n : ℕ) → holdable c ≡ true → length lines ≡ 1022 → tookIn f d c lines kinds l m n ≡ takes f d s l m n
+  pub took-all : (m n : ℕ) → holdable c ≡ true → length lent ≡ 1058
+      → tookIn supported d c lent l m n ≡ takes (fixedLent supported lent) d s l m n
   unfolding tookIn choose
   took-all m n h g = rw (h, g)
 
@@ -244,21 +245,21 @@ module _ (f : Fixed) (d : Side) (c : Control) (lines kinds l : List ℕ) where
       let client = nothing-placed to 0 .1 in
       rw e ((refl, refl), λ i. record { state = s; serverBuffer = server i; clientBuffer = client i; written = record { server = 0; client = 0 } })
 
-  -- what the function returns where the counts, or the lines' length, can't be
+  -- what the function returns where the counts, or the number of octets lent, can't be
   abbrev None : Type 0
-  None = (from to : List ℕ) → Given (tookIn f d c lines kinds l (length from) (length to)) from to Answer.BadRecord 0
+  None = (from to : List ℕ) → Given (tookIn supported d c lent l (length from) (length to)) from to Answer.BadRecord 0
       (coreFrom s from to (record { server = 0; client = 0 }))
 
   pub took-none : holdable c ≡ false → None
   unfolding tookIn choose
   took-none h from to = took-nothing from to _ (rw h)
 
-  by-both : (m n : ℕ) (b : Bool) → eqb (length lines) 1022 ≡ false
-      → choose (b && eqb (length lines) 1022) (takes f d s l m n) (tookNothing Answer.BadRecord s) ≡ tookNothing Answer.BadRecord s
+  by-both : (m n : ℕ) (b : Bool) → eqb (length lent) 1058 ≡ false
+      → choose (b && eqb (length lent) 1058) (takes (fixedLent supported lent) d s l m n) (tookNothing Answer.BadRecord s) ≡ tookNothing Answer.BadRecord s
   unfolding choose
   by-both m n true e = rw e
   by-both m n false e = refl
 
-  pub took-other : eqb (length lines) 1022 ≡ false → None
+  pub took-other : eqb (length lent) 1058 ≡ false → None
   unfolding tookIn
   took-other h from to = took-nothing from to _ (by-both (length from) (length to) (holdable c) h)

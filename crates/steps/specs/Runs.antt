@@ -15,8 +15,7 @@ use Rattle.steps.specs.Steps.{State}
 use Rattle.steps.specs.declared.Written.{Written}
 use Rattle.records.specs.declared.Control.{Control}
 use Rattle.steps.specs.Settled.{Settled}
-use Rattle.steps.specs.Takes.{Took, takes, Core, coreFrom, stateFrom}
-use Rattle.steps.specs.Core.{Counted}
+use Rattle.steps.specs.Takes.{Took, takes, Core, coreFrom, stateFrom, Counted}
 
 -- n octets taken, for which a went to the server and b to the client, and then r
 abbrev pub prefixed : ℕ → List ℕ → List ℕ → Took → Took

@@ -1,24 +1,36 @@
-// The octets of an arrival, one after the other and in runs, until one has to wait.
+// The octets of an arrival, by lines, runs and octets, until one has to wait.
 ghost use mathlib.Core.Path.{_≡_};
 ghost use lib.ListN.{length};
 ghost use Rattle.rules.specs.Answers.{isQueueFull};
-ghost use Rattle.steps.specs.Takes.{isPassing as passes, takes, tookIn, holdable as areHoldable, stateIn, coreIn, sideIf, Given};
-ghost use Rattle.steps.specs.Core.{Counted};
-use octet::any_octet;
+ghost use Rattle.steps.specs.Takes.{isPassing as passes, takes, tookIn, holdable as areHoldable, fixedLent, addressesLent, stateLent, coreLent, sideIf, Given, Counted};
+use next::next_octet;
+use next::next_run;
 use places::Direction;
 use places::Place;
 use records::Control;
 use rules::Answer;
-use running::any_run;
+use rules::Switches;
 
+mod next;
 mod octet;
+mod plain;
 mod running;
 mod settling;
 
-// The octets of a line that may be held, and of the two lines as they lie behind each other, the client's first.
+// The octets of a line that may be held.
 pub const HELD: usize = 511;
 
-pub const LINES: usize = 1022;
+// What is lent of a record, one part behind the other, and where each begins: the client's address at 0, its mapped one,
+// the kinds owed, the client's line, the server's; and how many octets they are.
+pub const MAPPED: usize = 16;
+
+pub const KINDS: usize = 20;
+
+pub const COMMAND: usize = 36;
+
+pub const REPLY: usize = 547;
+
+pub const LENT: usize = 1058;
 
 // What a setup fixes: the client's address, its mapped address, and whether EPRT is supported.
 pub struct Fixed {
@@ -33,12 +45,11 @@ pub struct Written {
     pub client: usize,
 }
 
-// What stopped an arrival and how many octets it took; and the control, the kinds and the counts then.
+// What stopped an arrival and how many octets it took; and the control and the counts then.
 pub struct Taken {
     pub answer: Answer,
     pub taken: usize,
     pub control: Control,
-    pub kinds: [u8; 16],
     pub written: Written,
 }
 
@@ -83,55 +94,52 @@ fn holdable(control: Control) -> bool
     server.held <= HELD
 }
 
-// The octets of an arrival, until one has to wait; from lines or counts that can't be, nothing is taken.
+// The octets of an arrival, until one has to wait; from counts that can't be, or another number of lent octets, nothing
+// is taken.
 pub fn take(
-    fixed: Fixed,
+    supported: bool,
     from_client: bool,
     start: Control,
-    owed: [u8; 16],
     octets: &[u8],
-    lines: &mut [u8],
+    lent: &mut [u8],
     to_server: &mut [u8],
     to_client: &mut [u8],
 ) -> Taken
     ensures { λ r.
         let server = now («to_server» .entry) in
         let client = now («to_client» .entry) in
-        let t = tookIn fixed (sideIf «from_client») start (now (lines .entry)) owed (now (octets .entry))
-        (length server) (length client) in
-        let after = coreIn (r .control) (now (lines .exit)) (r .kinds) (now («to_server» .exit)) (now («to_client» .exit))
-        (r .written) in
+        let t = tookIn supported (sideIf «from_client») start (now (lent .entry)) (now (octets .entry)) (length server) (length client) in
+        let after = coreLent (r .control) (now (lent .exit)) (now («to_server» .exit)) (now («to_client» .exit)) (r .written) in
         ⌜ Given t server client (r .answer) (r .taken) after ⌝ }
+    ensures fixed { λ _. ⌜ addressesLent (now (lent .exit)) ≡ addressesLent (now (lent .entry)) ⌝ }
+    ensures counts { λ r. ⌜ (Counted start → Counted (r .control)) ⌝ }
 {
     if !holdable(start) {
-        return nothing_taken(start, owed);
+        return nothing_taken(start);
     }
-    if lines.len() != LINES {
-        return nothing_taken(start, owed);
+    if lent.len() != LENT {
+        return nothing_taken(start);
     }
     take_each(
-        fixed,
+        supported,
         from_client,
         start,
-        owed,
         octets,
-        lines,
+        lent,
         to_server,
         to_client,
     )
 }
 
 // What is refused as a record that can't be.
-fn nothing_taken(control: Control, kinds: [u8; 16]) -> Taken
+fn nothing_taken(control: Control) -> Taken
     ensures { λ r.
-        ⌜ r
-        ≡ record { answer = Answer.BadRecord; taken = 0; control = control; kinds = kinds; written = record { server = 0; client = 0 } } ⌝ }
+        ⌜ r ≡ record { answer = Answer.BadRecord; taken = 0; control = control; written = record { server = 0; client = 0 } } ⌝ }
 {
     Taken {
         answer: Answer::BadRecord,
         taken: 0,
         control,
-        kinds,
         written: Written {
             server: 0,
             client: 0,
@@ -139,48 +147,46 @@ fn nothing_taken(control: Control, kinds: [u8; 16]) -> Taken
     }
 }
 
-// A run and the octet behind it, again and again, where the counts can be held.
+// Plain lines and a run behind them, and the octet behind those, again and again, where the counts can be held.
 fn take_each(
-    fixed: Fixed,
+    supported: bool,
     from_client: bool,
     start: Control,
-    owed: [u8; 16],
     octets: &[u8],
-    lines: &mut [u8],
+    lent: &mut [u8],
     to_server: &mut [u8],
     to_client: &mut [u8],
 ) -> Taken
     requires { ⌜ Counted start ⌝ }
-    requires { ⌜ length (now lines) ≡ 1022 ⌝ }
+    requires { ⌜ length (now lent) ≡ 1058 ⌝ }
     ensures { λ r.
         let server = now («to_server» .entry) in
         let client = now («to_client» .entry) in
-        let t = takes fixed (sideIf «from_client») (stateIn start (now (lines .entry)) owed) (now (octets .entry))
-        (length server) (length client) in
-        let after = coreIn (r .control) (now (lines .exit)) (r .kinds) (now («to_server» .exit)) (now («to_client» .exit))
-        (r .written) in
+        let fixed = fixedLent supported (now (lent .entry)) in
+        let t = takes fixed (sideIf «from_client») (stateLent start (now (lent .entry))) (now (octets .entry)) (length server) (length client) in
+        let after = coreLent (r .control) (now (lent .exit)) (now («to_server» .exit)) (now («to_client» .exit)) (r .written) in
         ⌜ Given t server client (r .answer) (r .taken) after ⌝ }
+    ensures fixed { λ _. ⌜ addressesLent (now (lent .exit)) ≡ addressesLent (now (lent .entry)) ⌝ }
+    ensures counts { λ r. ⌜ Counted (r .control) ⌝ }
 {
     let mut control = start;
-    let mut kinds = owed;
     let mut written = Written {
         server: 0,
         client: 0,
     };
     let mut i = 0;
     while i < octets.len() {
-        let run = any_run(
+        let run = next_run(
             from_client,
             control,
-            kinds,
             octets,
             i,
-            lines,
+            lent,
             to_server,
             to_client,
             written,
         );
-        control = run.control;
+        control = rebuilt(run.control);
         written = run.written;
         i = run.taken;
         if i < octets.len() {
@@ -189,30 +195,26 @@ fn take_each(
                     answer: Answer::QueueFull,
                     taken: i,
                     control,
-                    kinds,
                     written,
                 };
             }
-            let o = any_octet(
-                fixed,
+            let o = next_octet(
+                supported,
                 from_client,
                 control,
-                kinds,
                 octets[i],
-                lines,
+                lent,
                 to_server,
                 to_client,
                 written,
             );
-            control = o.control;
-            kinds = o.kinds;
+            control = rebuilt(o.control);
             written = o.written;
             if !o.fits {
                 return Taken {
                     answer: Answer::NoRoom,
                     taken: i,
                     control,
-                    kinds,
                     written,
                 };
             }
@@ -223,7 +225,33 @@ fn take_each(
         answer: Answer::Done,
         taken: i,
         control,
-        kinds,
         written,
+    }
+}
+
+// The control, field by field: a struct that is copied whole drags its padding through the loop.
+fn rebuilt(control: Control) -> Control
+    ensures { λ r. ⌜ r ≡ control ⌝ }
+{
+    let switches = control.switches;
+    let client = control.client;
+    let server = control.server;
+    let client_place = client.place;
+    let server_place = server.place;
+    Control {
+        switches: Switches {
+            epsv: switches.epsv,
+            eprt: switches.eprt,
+        },
+        client: Direction {
+            place: client_place,
+            held: client.held,
+        },
+        server: Direction {
+            place: server_place,
+            held: server.held,
+        },
+        owed: control.owed,
+        unfinished: control.unfinished,
     }
 }

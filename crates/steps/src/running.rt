@@ -7,6 +7,7 @@ ghost use Prim.Native.Nat.{ℕ, _+_, _-_, _≤_};
 ghost use lib.ListN.{length, take, drop};
 ghost use Rattle.rules.specs.Octets.{every, isNot, lf};
 ghost use Rattle.rules.specs.Answers.{client, isQueueFull};
+ghost use Rattle.output.specs.Buffer.{placed};
 ghost use Rattle.places.specs.Places.{at};
 ghost use Rattle.records.specs.Sound.{isHolding as holds};
 ghost use Rattle.steps.specs.declared.Fixed.{Fixed};
@@ -31,7 +32,7 @@ pub struct Part {
     pub written: Written,
 }
 
-fn is_holding(direction: Direction) -> bool
+pub fn is_holding(direction: Direction) -> bool
     ensures { λ r. ⌜ r ≡ holds (direction .place) ⌝ }
 {
     let place = direction.place;
@@ -94,6 +95,18 @@ fn no_lf_end(octets: &[u8], i: usize, most: usize) -> usize
     let e = i + least(octets.len() - i, most);
     let n = find_lf(&octets[i..e], 0);
     i + n
+}
+
+// The octets from i on that are no LF, as many as may be held, are put behind those held; where they end.
+pub fn hold_run(octets: &[u8], i: usize, line: &mut [u8], held: usize) -> usize
+    requires { ⌜ (i ≤ length (now octets)) × (held ≤ length (now line)) ⌝ }
+    ensures end { λ r. ⌜ (i ≤ r) × (r ≤ length (now (octets .entry))) × (held + (r - i) ≤ length (now (line .entry))) ⌝ }
+    ensures run { λ r. ⌜ every (isNot lf) (take (r - i) (drop i (now (octets .entry)))) ≡ true ⌝ }
+    ensures held { λ r. ⌜ now (line .exit) ≡ placed (now (line .entry)) held (take (r - i) (drop i (now (octets .entry)))) ⌝ }
+{
+    let j = no_lf_end(octets, i, line.len() - held);
+    put(line, held, &octets[i..j]);
+    j
 }
 
 // As many octets as there are, or as have room, after AUTH.
@@ -182,8 +195,7 @@ fn client_hold(
 {
     let direction = control.client;
     let held = direction.held;
-    let j = no_lf_end(octets, i, command.len() - held);
-    put(command, held, &octets[i..j]);
+    let j = hold_run(octets, i, command, held);
     let switches = control.switches;
     let other = control.server;
     let then = Direction {
@@ -337,8 +349,7 @@ fn server_hold(
 {
     let direction = control.server;
     let held = direction.held;
-    let j = no_lf_end(octets, i, reply.len() - held);
-    put(reply, held, &octets[i..j]);
+    let j = hold_run(octets, i, reply, held);
     let switches = control.switches;
     let other = control.client;
     let then = Direction {

@@ -3,7 +3,7 @@ use mathlib.Core.List.{_++_}
 use native.Mathlib.Omega.{arith}
 use Rattle.output.proofs.Placing.{no-room, joined}
 use Rattle.image.specs.Image.{marksOf, numbersOf, arraysOf, imageOf}
-use Rattle.image.proofs.Writing.{image-length}
+use Rattle.image.proofs.Writing.{numbers-put, image-length}
 use borrow.Author.Needs.{needs}
 use Rattle.image.proofs.put_image.Statement.{statement}
 use Rattle.image.proofs.put_image.Tie as tie
@@ -18,6 +18,15 @@ returns c =
 put-marks-requires : tie.Need-put-marks-requires
 put-marks-requires c κs = search needs
 
+capped-requires : tie.Need-capped-requires
+capped-requires c κs = search needs
+
+capped-requires-2 : tie.Need-capped-requires-2
+capped-requires-2 c κs = search needs
+
+capped-requires-3 : tie.Need-capped-requires-3
+capped-requires-3 c κs = search needs
+
 put-numbers-requires : tie.Need-put-numbers-requires
 put-numbers-requires c κs = search needs
 
@@ -30,15 +39,17 @@ same-length c = search needs
 returns-2 : tie.Need-returns-2
 unfolding imageOf marksOf numbersOf
 returns-2 c =
-    let start = c .before .before .before .before .before .before .before .before .before .before .before .before .before .before .before .before .before in
+    let start = c .before .before .before .before .before .before .before .before .before .before .before .before .before .before .before .before .before .before .before .before .before .before in
     let known = start .good .1 .0 in
     let later = start .good .1 .0 .1 .1 .1 .1 .1 in
     let a = start .args in
     let s = a .session in
     let size = image-length s (record { client = search needs; mapped = search needs; kinds = search needs; command = search needs; reply = search needs }) in
-    joined _ _ (marksOf s) (numbersOf s ++ arraysOf s) (c .before .before .before .before .before .before .before .before .before .before .put-marks .ensures)
-    (joined _ _ (numbersOf s) (arraysOf s) (c .before .before .before .before .before .before .put-numbers .ensures) (c .before .before .put-arrays .ensures))
-    (omega (arith, c .before .before .before .before .before .before .before .before .before .before .before .before .before .before .before .if1 .left)) .1
+    joined _ _ (marksOf s) (numbersOf s ++ arraysOf s) (c .before .before .before .before .before .before .before .before .before .before .before .before .before .before .before .put-marks .ensures)
+    (joined _ _ (numbersOf s) (arraysOf s)
+    (numbers-put _ _ (s .control) (s .up) (s .down) (c .before .before .before .before .before .before .before .before .before .before .capped .ensures) (c .before .before .before .before .before .before .before .before .before .capped2 .ensures) (c .before .before .before .before .before .before .before .before .capped3 .ensures) (c .before .before .before .before .before .before .put-numbers .ensures))
+    (c .before .before .put-arrays .ensures))
+    (omega (arith, c .before .before .before .before .before .before .before .before .before .before .before .before .before .before .before .before .before .before .before .before .if1 .left)) .1
 
 pub put-image-spec : {M : Type 1} → statement M
 put-image-spec =
@@ -46,6 +57,9 @@ put-image-spec =
     (tie.spec
     returns
     put-marks-requires
+    capped-requires
+    capped-requires-2
+    capped-requires-3
     put-numbers-requires
     put-arrays-requires
     same-length

@@ -1,27 +1,16 @@
 -- `image::put_numbers`: seven numbers one after another.
-use mathlib.Core.Path.{ap}
 use mathlib.Core.List.{_++_}
-use Rattle.output.proofs.Placing.{written}
-use Rattle.image.specs.Image.{fourOctets, capped}
+use Rattle.image.specs.Image.{fourOctets}
 use Rattle.image.proofs.Writing.{andThen}
 use borrow.Author.Needs.{needs}
 use Rattle.image.proofs.put_numbers.Statement.{statement}
 use Rattle.image.proofs.put_numbers.Tie as tie
 
-capped-requires : tie.Need-capped-requires
-capped-requires c κs = search needs
-
 put-number-requires : tie.Need-put-number-requires
 put-number-requires c κs = search needs
 
-capped-requires-2 : tie.Need-capped-requires-2
-capped-requires-2 c κs = search needs
-
 put-number-requires-2 : tie.Need-put-number-requires-2
 put-number-requires-2 c κs = search needs
-
-capped-requires-3 : tie.Need-capped-requires-3
-capped-requires-3 c κs = search needs
 
 put-number-requires-3 : tie.Need-put-number-requires-3
 put-number-requires-3 c κs = search needs
@@ -43,10 +32,9 @@ same-length c = search needs
 
 returns : tie.Need-returns
 returns c =
-    let a = c .before .before .before .before .before .before .before .before .before .before .before .before .before .before .before .before .before .before .before .before .before .before .before .before .before .before .before .before .before .before .before .before .before .before .args in
-    let k = a .control in
-    let p1 = c .before .before .before .before .before .before .before .before .before .before .before .before .before .before .before .before .before .before .before .before .before .before .before .before .before .before .before .before .put-number in
-    let p2 = c .before .before .before .before .before .before .before .before .before .before .before .before .before .before .before .before .before .before .before .before .before .before .before .put-number2 in
+    let a = c .before .before .before .before .before .before .before .before .before .before .before .before .before .before .before .before .before .before .before .before .before .before .before .before .before .before .before .before .before .args in
+    let p1 = c .before .before .before .before .before .before .before .before .before .before .before .before .before .before .before .before .before .before .before .before .before .before .before .before .before .before .put-number in
+    let p2 = c .before .before .before .before .before .before .before .before .before .before .before .before .before .before .before .before .before .before .before .before .before .before .put-number2 in
     let p3 = c .before .before .before .before .before .before .before .before .before .before .before .before .before .before .before .before .before .before .put-number3 in
     let p4 = c .before .before .before .before .before .before .before .before .before .before .before .before .before .before .put-number4 in
     let p5 = c .before .before .before .before .before .before .before .before .before .before .put-number5 in
@@ -56,11 +44,11 @@ returns c =
     let t6 = fourOctets (a .down .taken) ++ t7 in
     let t5 = fourOctets (a .up .written) ++ t6 in
     let t4 = fourOctets (a .up .taken) ++ t5 in
-    let t3 = fourOctets (capped (k .server .held)) ++ t4 in
-    let t2 = fourOctets (capped (k .client .held)) ++ t3 in
-    andThen (a .out .now) (a .at) (fourOctets (capped (k .owed))) t2 (written (a .out .now) (a .at) (ap fourOctets (c .before .before .before .before .before .before .before .before .before .before .before .before .before .before .before .before .before .before .before .before .before .before .before .before .before .before .before .before .before .capped .ensures)) (p1 .ensures))
-    (andThen (p1 .last .0) (p1 .result) (fourOctets (capped (k .client .held))) t3 (written (p1 .last .0) (p1 .result) (ap fourOctets (c .before .before .before .before .before .before .before .before .before .before .before .before .before .before .before .before .before .before .before .before .before .before .before .before .capped2 .ensures)) (p2 .ensures))
-    (andThen (p2 .last .0) (p2 .result) (fourOctets (capped (k .server .held))) t4 (written (p2 .last .0) (p2 .result) (ap fourOctets (c .before .before .before .before .before .before .before .before .before .before .before .before .before .before .before .before .before .before .before .capped3 .ensures)) (p3 .ensures))
+    let t3 = fourOctets (a .reply) ++ t4 in
+    let t2 = fourOctets (a .command) ++ t3 in
+    andThen (a .out .now) (a .at) (fourOctets (a .owed)) t2 (p1 .ensures)
+    (andThen (p1 .last .0) (p1 .result) (fourOctets (a .command)) t3 (p2 .ensures)
+    (andThen (p2 .last .0) (p2 .result) (fourOctets (a .reply)) t4 (p3 .ensures)
     (andThen (p3 .last .0) (p3 .result) (fourOctets (a .up .taken)) t5 (p4 .ensures)
     (andThen (p4 .last .0) (p4 .result) (fourOctets (a .up .written)) t6 (p5 .ensures)
     (andThen (p5 .last .0) (p5 .result) (fourOctets (a .down .taken)) t7 (p6 .ensures)
@@ -70,11 +58,8 @@ pub put-numbers-spec : {M : Type 1} → statement M
 put-numbers-spec =
     tie.close
     (tie.spec
-    capped-requires
     put-number-requires
-    capped-requires-2
     put-number-requires-2
-    capped-requires-3
     put-number-requires-3
     put-number-requires-4
     put-number-requires-5

@@ -1,13 +1,11 @@
 -- `session::arrive` meets its contract: a refusal, or what `take` left, whose texts have room.
-use mathlib.Core.Path.{_≡_, sym, ap, _∙_}
+use mathlib.Core.Path.{sym, ap, _∙_}
 use borrow.Author.Needs.{needs}
 use lib.Dec.{eqb}
 use lib.ListN.{length}
-use Rattle.session.specs.Calls.{fixedOf, sessionAfter, arrived}
-use Rattle.steps.specs.Steps.{State}
+use Rattle.session.specs.Calls.{sessionAfter, arrived}
 use Rattle.steps.specs.Takes.{takes, sideIf}
-use Rattle.steps.proofs.Halves.{command-size}
-use Rattle.session.proofs.Lines.{laid-size, laid-state, lines-back}
+use Rattle.session.proofs.Lines.{laid-size, laid-fixed, laid-state, arrays-back}
 use Rattle.records.proofs.Refusals.{by-nothing, countable}
 use Rattle.steps.proofs.Takes.{took-all, counts-holdable}
 use Rattle.session.proofs.Outcomes.{side-tested, turned-away, arrives}
@@ -41,23 +39,17 @@ slice-aggregate-take c = search needs
 take-requires : tie.Need-take-requires
 take-requires c κs = search needs
 
-array-share-prefix-lines : tie.Need-array-share-prefix-lines
-array-share-prefix-lines c = search needs
+sub-sixteen : tie.Need-sub-sixteen
+sub-sixteen c = search needs
 
-slice-aggregate-held-line : tie.Need-slice-aggregate-held-line
-slice-aggregate-held-line c =
-    let s = c .before .before .before .before .before .before .before .before .before .before .before .before .before .before .before .before .before .before .before .before .before .before .before .args .session in
-    let known = c .before .before .before .before .before .before .before .before .before .before .before .before .before .before .before .before .before .before .before .before .before .before .before .good .0 in
-    let later = known .1 .1 .1 .1 .1 in
-    let t = c .before .before .before .before .before .before .take in
-    let lines = c .before .before .before .before .before .before .before .before .before .before .laid in
-    let command : length (s .command) ≡ 511 = search needs in
-    let reply : length (s .reply) ≡ 511 = search needs in
-    let size = laid-size (s .command) (s .reply) command reply (lines .ensures) in
-    sym (command-size (t .last .1 .1 .1 .1 .1 .0) (t .kept .1 .1 .1 .1 .1 .0 ∙ size))
+part-sixteen-start : tie.Need-part-sixteen-start
+part-sixteen-start c = search needs
 
-held-line-requires : tie.Need-held-line-requires
-held-line-requires c κs = search needs
+part-sixteen-end : tie.Need-part-sixteen-end
+part-sixteen-end c = search needs
+
+sixteen-requires : tie.Need-sixteen-requires
+sixteen-requires c κs = search needs
 
 sub-held-line : tie.Need-sub-held-line
 sub-held-line c = search needs
@@ -68,6 +60,18 @@ part-held-line-start c = search needs
 part-held-line-end : tie.Need-part-held-line-end
 part-held-line-end c = search needs
 
+held-line-requires : tie.Need-held-line-requires
+held-line-requires c κs = search needs
+
+sub-held-line-2 : tie.Need-sub-held-line-2
+sub-held-line-2 c = search needs
+
+part-held-line-start-2 : tie.Need-part-held-line-start-2
+part-held-line-start-2 c = search needs
+
+part-held-line-end-2 : tie.Need-part-held-line-end-2
+part-held-line-end-2 c = search needs
+
 held-line-requires-2 : tie.Need-held-line-requires-2
 held-line-requires-2 c κs = search needs
 
@@ -75,37 +79,36 @@ after-requires : tie.Need-after-requires
 after-requires c κs = search needs
 
 same-length : tie.Need-same-length
-same-length c = search needs
+same-length c = c .before .before .before .before .before .before .before .before .before .before .before .before .before .before .before .before .before .take .kept .1 .1 .1 .1 .1 .0
 
 same-length-2 : tie.Need-same-length-2
 same-length-2 c = search needs
 
 returns-2 : tie.Need-returns-2
 returns-2 c =
-    let a = c .before .before .before .before .before .before .before .before .before .before .before .before .before .before .before .before .before .before .before .before .before .before .before .before .before .before .before .before .before .before .before .args in
+    let a = c .before .before .before .before .before .before .before .before .before .before .before .before .before .before .before .before .before .before .before .before .before .before .before .before .before .before .before .before .before .before .before .before .before .before .args in
     let s = a .session in
-    let known = c .before .before .before .before .before .before .before .before .before .before .before .before .before .before .before .before .before .before .before .before .before .before .before .before .before .before .before .before .before .before .before .good .0 in
-    let later = known .1 .1 .1 .1 .1 .1 in
-    let reply : length (s .reply) ≡ 511 = search needs in
-    let command : length (s .command) ≡ 511 = search needs in
-    let t = c .before .before .before .before .before .before .before .before .before .before .before .before .before .before .take in
-    let lines = c .before .before .before .before .before .before .before .before .before .before .before .before .before .before .before .before .before .before .laid in
-    let free = by-nothing _ (sym (c .before .before .before .before .before .before .before .before .before .before .before .before .before .before .before .before .before .before .before .before .before .before .before .before .before .before .before .refusal-of .ensures) ∙ c .before .before .before .before .before .before .before .before .before .before .before .before .before .before .before .before .before .before .before .before .before .before .before .before .before .enum-told .given .1) in
+    let t = c .before .before .before .before .before .before .before .before .before .before .before .before .before .before .before .before .before .take in
+    let lent = c .before .before .before .before .before .before .before .before .before .before .before .before .before .before .before .before .before .before .before .before .before .laid in
+    let sizes = lent .ensures .1 in
+    let free = by-nothing _ (sym (c .before .before .before .before .before .before .before .before .before .before .before .before .before .before .before .before .before .before .before .before .before .before .before .before .before .before .before .before .before .before .refusal-of .ensures) ∙ c .before .before .before .before .before .before .before .before .before .before .before .before .before .before .before .before .before .before .before .before .before .before .before .before .before .before .before .before .enum-told .given .1) in
     let k = countable s (a .direction) free in
-    let size = laid-size (s .command) (s .reply) command reply (lines .ensures) in
+    let size = laid-size (s .client) (s .mapped) (s .kinds) (s .command) (s .reply) (sizes .0) (sizes .1) (sizes .2) (sizes .3) (sizes .4) (lent .result) (lent .ensures .0) in
+    let fixed = laid-fixed (s .client) (s .mapped) (s .kinds) (s .command) (s .reply) (sizes .0) (sizes .1) (sizes .2) (sizes .3) (sizes .4) (lent .result) (lent .ensures .0) (s .supported) in
+    let state = laid-state (s .client) (s .mapped) (s .kinds) (s .command) (s .reply) (sizes .0) (sizes .1) (sizes .2) (sizes .3) (sizes .4) (lent .result) (lent .ensures .0) (s .control) in
     let m = length (a .to-server .now) in
     let n = length (a .to-client .now) in
     let side = sideIf (eqb (a .direction) 0) in
-    let all = took-all (fixedOf s) side (s .control) (lines .result) (s .kinds) (a .octets .now) m n (counts-holdable (s .control) (k .owed) (k .command) (k .reply)) size
-    ∙ ap (λ (x : State). takes (fixedOf s) side x (a .octets .now) m n) (laid-state (s .control) (s .command) (s .reply) (s .kinds) command (lines .ensures)) in
+    let all = took-all (s .supported) side (s .control) (lent .result) (a .octets .now) m n (counts-holdable (s .control) (k .owed) (k .command) (k .reply)) size
+    ∙ (λ i. takes (fixed i) side (state i) (a .octets .now) m n) in
     let after = c .after .ensures
     ∙ ap (sessionAfter s side (t .result .taken) (t .result .written .server) (t .result .written .client))
-    (lines-back (t .result .control) (t .result .kinds) (t .last .1 .1 .1 .1 .1 .0) (t .kept .1 .1 .1 .1 .1 .0 ∙ size) (c .before .before .before .before .before .before .before .held-line .ensures) (c .before .before .before .before .held-line2 .ensures)) in
+    (arrays-back (t .result .control) (t .last .1 .1 .1 .1 .0) (t .kept .1 .1 .1 .1 .0 ∙ size) (c .before .before .before .before .before .before .before .before .before .sixteen .ensures) (c .before .before .before .before .before .before .held-line .ensures) (c .before .before .before .held-line2 .ensures)) in
     arrives s (a .direction) (a .octets .now) (a .to-server .now) (a .to-client .now) side (side-tested (a .direction)) free
     all
-    (t .ensures .0 .0)
+    (t .ensures .0 .0 .0)
+    (t .ensures .0 .0 .1)
     (t .ensures .0 .1)
-    (t .ensures .1)
     after
 
 pub arrive-spec : {M : Type 1} → statement M
@@ -120,12 +123,17 @@ arrive-spec =
     laid-requires
     slice-aggregate-take
     take-requires
-    array-share-prefix-lines
-    slice-aggregate-held-line
-    held-line-requires
+    sub-sixteen
+    part-sixteen-start
+    part-sixteen-end
+    sixteen-requires
     sub-held-line
     part-held-line-start
     part-held-line-end
+    held-line-requires
+    sub-held-line-2
+    part-held-line-start-2
+    part-held-line-end-2
     held-line-requires-2
     after-requires
     same-length

@@ -1,44 +1,41 @@
--- `session::laid` meets its contract: the second line is put where the first one ends, and there is no more.
+-- `session::laid` meets its contract: each array is put where the one before it ends, and there is no more.
 use mathlib.Core.Path.{_≡_}
 use lib.ListN.{length}
 use borrow.Author.Needs.{needs}
-use Rattle.session.proofs.Lines.{both-laid}
+use Rattle.session.proofs.Lines.{all-laid}
 use Rattle.session.proofs.laid.Statement.{statement}
 use Rattle.session.proofs.laid.Tie as tie
 
-slice-aggregate-put : tie.Need-slice-aggregate-put
-slice-aggregate-put c = search needs
-
-slice-aggregate-put-2 : tie.Need-slice-aggregate-put-2
-slice-aggregate-put-2 c = search needs
-
-put-requires : tie.Need-put-requires
-put-requires c κs = search needs
-
-slice-aggregate-put-3 : tie.Need-slice-aggregate-put-3
-slice-aggregate-put-3 c = search needs
-
-slice-aggregate-put-4 : tie.Need-slice-aggregate-put-4
-slice-aggregate-put-4 c = search needs
-
-put-requires-2 : tie.Need-put-requires-2
-put-requires-2 c κs = search needs
-
 returns : tie.Need-returns
 returns c =
-    let a = c .before .before .before .before .before .before .before .before .args in
-    let first : length (a .t1) ≡ 511 = search needs in
-    let second : length (a .t2) ≡ 511 = search needs in
-    both-laid (a .t1) (a .t2) first second (c .before .before .before .before .before .put .ensures .1) (c .before .put2 .ensures .1)
+    let a = c .before .before .before .before .before .before .before .before .before .before .before .before .before .before .before .before .before .before .before .before .args in
+    let client : length (a .t1) ≡ 16 = search needs in
+    let mapped : length (a .t2) ≡ 4 = search needs in
+    let kinds : length (a .t3) ≡ 16 = search needs in
+    let command : length (a .t4) ≡ 511 = search needs in
+    let reply : length (a .t5) ≡ 511 = search needs in (
+      all-laid (a .t1) (a .t2) (a .t3) (a .t4) (a .t5) client mapped kinds command reply (c .before .before .before .before .before .before .before .before .before .before .before .before .before .before .before .before .before .put .ensures .1) (c .before .before .before .before .before .before .before .before .before .before .before .before .before .put2 .ensures .1)
+          (c .before .before .before .before .before .before .before .before .before .put3 .ensures .1) (c .before .before .before .before .before .put4 .ensures .1) (c .before .put5 .ensures .1),
+      (client, mapped, kinds, command, reply),
+    )
 
 pub laid-spec : {M : Type 1} → statement M
 laid-spec =
     tie.close
     (tie.spec
-    slice-aggregate-put
-    slice-aggregate-put-2
-    put-requires
-    slice-aggregate-put-3
-    slice-aggregate-put-4
-    put-requires-2
+    (λ c. search needs)
+    (λ c. search needs)
+    (λ c κs. search needs)
+    (λ c. search needs)
+    (λ c. search needs)
+    (λ c κs. search needs)
+    (λ c. search needs)
+    (λ c. search needs)
+    (λ c κs. search needs)
+    (λ c. search needs)
+    (λ c. search needs)
+    (λ c κs. search needs)
+    (λ c. search needs)
+    (λ c. search needs)
+    (λ c κs. search needs)
     returns)

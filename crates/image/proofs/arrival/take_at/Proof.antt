@@ -1,4 +1,4 @@
--- `image::arrival::take_at` meets its contract: what `take` does to the lines where they lie, and the rest written back.
+-- `image::arrival::take_at` meets its contract: what `take` does to the arrays where they lie, and the rest written back.
 use borrow.Author.Needs.{needs}
 use mathlib.Core.Path.{_≡_, refl, sym, subst, _∙_}
 use mathlib.Core.Option.{none}
@@ -6,7 +6,7 @@ use native.Mathlib.Omega.{arith}
 use lib.Dec.{eqb}
 use lib.ListN.{length, drop, length-drop}
 use lib.Seq.{length-take-le}
-use borrow.Rule.Slice.PartMut.{putMid, same-len-mid}
+use borrow.Rule.Slice.PartMut.{same-len-mid}
 use Rattle.records.specs.declared.Session.{Session}
 use Rattle.session.specs.Calls.{arrived}
 use Rattle.session.proofs.Outcomes.{side-tested}
@@ -14,8 +14,7 @@ use Rattle.records.specs.Sound.{refusalOf}
 use Rattle.steps.specs.Takes.{sideIf, tookIn}
 use Rattle.image.specs.Image.{isSet, part}
 use Rattle.image.specs.Lent.{arrivedAt}
-use Rattle.image.proofs.Reading.{copied}
-use Rattle.image.proofs.Arrivals.{Left, lent-all, left, free-size, free-fields}
+use Rattle.image.proofs.Arrivals.{Left, lent, lent-size, lent-all, left, free-size, free-fields, free-counts}
 use Rattle.image.proofs.arrival.take_at.Statement.{statement}
 use Rattle.image.proofs.arrival.take_at.Tie as tie
 
@@ -31,44 +30,23 @@ slice-read-supported c =
     let size = free-size (start .args .image .now) (start .args .direction) (start .pre) in
     omega arith
 
-fixed-in-requires : tie.Need-fixed-in-requires
-fixed-in-requires c κs =
-    let start = c .before .before .before .before .before .before .before in
-    let size = free-size (start .args .image .now) (start .args .direction) (start .pre) in
-    size
-
 control-in-requires : tie.Need-control-in-requires
 control-in-requires c κs =
-    let start = c .before .before .before .before .before .before .before .before .before in
+    let start = c .before .before .before .before .before .before .before in
     let size = free-size (start .args .image .now) (start .args .direction) (start .pre) in
     size
 
 counts-at-requires : tie.Need-counts-at-requires
 counts-at-requires c κs =
-    let start = c .before .before .before .before .before .before .before .before .before .before .before in
+    let start = c .before .before .before .before .before .before .before .before .before in
     let size = free-size (start .args .image .now) (start .args .direction) (start .pre) in
     omega arith
 
 counts-at-requires-2 : tie.Need-counts-at-requires-2
 counts-at-requires-2 c κs =
-    let start = c .before .before .before .before .before .before .before .before .before .before .before .before .before in
+    let start = c .before .before .before .before .before .before .before .before .before .before .before in
     let size = free-size (start .args .image .now) (start .args .direction) (start .pre) in
     omega arith
-
-sub-sixteen : tie.Need-sub-sixteen
-sub-sixteen c = search needs
-
-part-sixteen-start : tie.Need-part-sixteen-start
-part-sixteen-start c = search needs
-
-part-sixteen-end : tie.Need-part-sixteen-end
-part-sixteen-end c =
-    let start = c .before .before .before .before .before .before .before .before .before .before .before .before .before .before .before in
-    let size = free-size (start .args .image .now) (start .args .direction) (start .pre) in
-    omega arith
-
-sixteen-requires : tie.Need-sixteen-requires
-sixteen-requires c κs = search needs
 
 sub-take : tie.Need-sub-take
 sub-take c = search needs
@@ -78,7 +56,7 @@ part-take-start c = search needs
 
 part-take-end : tie.Need-part-take-end
 part-take-end c =
-    let start = c .before .before .before .before .before .before .before .before .before .before .before .before .before .before .before .before .before in
+    let start = c .before .before .before .before .before .before .before .before .before .before .before .before in
     let size = free-size (start .args .image .now) (start .args .direction) (start .pre) in
     omega arith
 
@@ -90,24 +68,24 @@ counts-then-requires c κs = search needs
 
 put-back-requires : tie.Need-put-back-requires
 put-back-requires c κs =
-    let start = c .before .before .before .before .before .before .before .before .before .before .before .before .before .before .before .before .before .before .before .before .before .before .before .before .before .before .before .before .before .before .before .before .before .before in
+    let start = c .before .before .before .before .before .before .before .before .before .before .before .before .before .before .before .before .before .before .before .before .before .before .before .before .before .before .before .before in
     let a = start .args in
     let I = a .image .now in
     let size = free-size I (a .direction) (start .pre) in
-    let t = c .before .before .before .before .before .before .before .before .before .before .before .before .before .take in
-    let long : length (part I 71 1022) ≡ 1022 = length-take-le 1022 (drop 71 I) (omega (arith, length-drop 71 I)) in
-    let same = same-len-mid 71 1022 I (t .last .1 .1 .1 .1 .1 .0) (t .kept .1 .1 .1 .1 .1 .0) in
-    omega arith
+    let t = c .before .before .before .before .before .before .before .before .before .before .before .before .take in
+    let long : length (part I 35 1058) ≡ 1058 = length-take-le 1058 (drop 35 I) (omega (arith, length-drop 35 I)) in
+    let same = same-len-mid 35 1058 I (t .last .1 .1 .1 .1 .0) (t .kept .1 .1 .1 .1 .0) in
+    (omega arith, t .ensures .1 .1 (free-counts I (a .direction) (start .pre) (c .before .before .before .before .before .before .before .before .before .before .before .before .before .before .before .before .before .before .before .before .control-in .ensures)))
 
 same-length : tie.Need-same-length
 same-length c =
-    let start = c .before .before .before .before .before .before .before .before .before .before .before .before .before .before .before .before .before .before .before .before .before .before .before .before .before .before .before .before .before .before .before .before .before .before .before .before .before in
+    let start = c .before .before .before .before .before .before .before .before .before .before .before .before .before .before .before .before .before .before .before .before .before .before .before .before .before .before .before .before .before .before .before in
     let a = start .args in
     let I = a .image .now in
     let size = free-size I (a .direction) (start .pre) in
-    let t = c .before .before .before .before .before .before .before .before .before .before .before .before .before .before .before .before .take in
-    let long : length (part I 71 1022) ≡ 1022 = length-take-le 1022 (drop 71 I) (omega (arith, length-drop 71 I)) in
-    let same = same-len-mid 71 1022 I (t .last .1 .1 .1 .1 .1 .0) (t .kept .1 .1 .1 .1 .1 .0) in
+    let t = c .before .before .before .before .before .before .before .before .before .before .before .before .before .before .before .take in
+    let long : length (part I 35 1058) ≡ 1058 = length-take-le 1058 (drop 35 I) (omega (arith, length-drop 35 I)) in
+    let same = same-len-mid 35 1058 I (t .last .1 .1 .1 .1 .0) (t .kept .1 .1 .1 .1 .0) in
     let kept = c .before .before .put-back .kept .0 in
     omega arith
 
@@ -120,34 +98,33 @@ same-length-3 c = search needs
 returns : tie.Need-returns
 unfolding arrivedAt
 returns c =
-    let ok = c .before .before .before .before .before .before .before .before .before .before .before .before .before .before .before .before .take .ok in
-    let held : length (c .before .before .before .before .before .before .before .before .before .before .before .before .before .before .before .before .take .result .kinds) ≡ 16 = search needs in
-    let start = c .before .before .before .before .before .before .before .before .before .before .before .before .before .before .before .before .before .before .before .before .before .before .before .before .before .before .before .before .before .before .before .before .before .before .before .before .before in
+    let start = c .before .before .before .before .before .before .before .before .before .before .before .before .before .before .before .before .before .before .before .before .before .before .before .before .before .before .before .before .before .before .before in
     let a = start .args in
     let I = a .image .now in
     let size = free-size I (a .direction) (start .pre) in
-    let t = c .before .before .before .before .before .before .before .before .before .before .before .before .before .before .before .before .take in
-    let long : length (part I 71 1022) ≡ 1022 = length-take-le 1022 (drop 71 I) (omega (arith, length-drop 71 I)) in
-    let sized = same-len-mid 71 1022 I (t .last .1 .1 .1 .1 .1 .0) (t .kept .1 .1 .1 .1 .1 .0) in
-    let back = c .before .before .put-back .ensures in
-    let counts = c .before .before .before .before .before .before .counts-then .ensures in
-    let fixed = c .before .before .before .before .before .before .before .before .before .before .before .before .before .before .before .before .before .before .before .before .before .before .before .before .before .before .before .before .before .fixed-in in
-    let control = c .before .before .before .before .before .before .before .before .before .before .before .before .before .before .before .before .before .before .before .before .before .before .before .before .before .before .before .control-in in
-    let up = c .before .before .before .before .before .before .before .before .before .before .before .before .before .before .before .before .before .before .before .before .before .before .before .before .before .counts-at in
-    let down = c .before .before .before .before .before .before .before .before .before .before .before .before .before .before .before .before .before .before .before .before .before .before .before .counts-at2 in
-    let kinds = c .before .before .before .before .before .before .before .before .before .before .before .before .before .before .before .before .before .before .before .before .sixteen in
+    let t = c .before .before .before .before .before .before .before .before .before .before .before .before .before .before .before .take in
+    let arrays = t .last .1 .1 .1 .1 .0 in
+    let out = t .last .1 .1 .1 .1 .1 .0 in
+    let other = t .last .1 .1 .1 .1 .1 .1 .0 in
+    let counts = c .before .before .before .before .before .before .counts-then in
+    let control = c .before .before .before .before .before .before .before .before .before .before .before .before .before .before .before .before .before .before .before .before .before .before .before .control-in in
+    let up = c .before .before .before .before .before .before .before .before .before .before .before .before .before .before .before .before .before .before .before .before .before .counts-at in
+    let down = c .before .before .before .before .before .before .before .before .before .before .before .before .before .before .before .before .before .before .before .counts-at2 in
     let side = sideIf (eqb (a .direction) 0) in
     let same = side-tested (a .direction) in
     let fields = free-fields I (a .direction) (start .pre) in
     let free = subst (λ (s : Session). refusalOf s (a .direction) ≡ none) (sym fields) (start .pre) in
-    let took = tookIn (fixed .result) side (control .result) (part I 71 1022) (kinds .result) (a .octets .now) (length (a .to-server .now)) (length (a .to-client .now)) in
-    let all = lent-all I (a .octets .now) (a .to-server .now) (a .to-client .now) (a .direction) side same size free (fixed .result) (control .result) (kinds .result) (fixed .ensures) (control .ensures) (copied I 55 16 (omega arith) (kinds .ensures)) in
+    let took = tookIn (isSet I 1) side (control .result) (lent I size) (a .octets .now) (length (a .to-server .now)) (length (a .to-client .now)) in
+    let all = lent-all I (a .octets .now) (a .to-server .now) (a .to-client .now) (a .direction) side same size free (isSet I 1) (control .result) refl (control .ensures) in
     subst
     (λ (s : Session). Left (arrived s (a .direction) (a .octets .now) (length (a .to-server .now)) (length (a .to-client .now)))
-    (record { answer = t .result .answer; taken = t .result .taken; written = t .result .written }) I (c .before .before .put-back .last .0) (a .to-server .now) (t .last .1 .1 .1 .1 .1 .1 .0) (a .to-client .now) (t .last .1 .1 .1 .1 .1 .1 .1 .0))
+    (record { answer = t .result .answer; taken = t .result .taken; written = t .result .written }) I (c .before .before .put-back .last .0)
+    (a .to-server .now) out (a .to-client .now) other)
     fields
-    (left I (a .octets .now) (a .to-server .now) (a .to-client .now) (a .direction) side same size free took all (t .result) (t .last .1 .1 .1 .1 .1 .0) (t .last .1 .1 .1 .1 .1 .1 .0) (t .last .1 .1 .1 .1 .1 .1 .1 .0) (t .ensures) (t .kept .1 .1 .1 .1 .1 .0 ∙ long) held
-    (isSet I 0) (isSet I 1) (up .result) (down .result) (c .before .before .before .before .before .before .counts-then .result .up) (c .before .before .before .before .before .before .counts-then .result .down) refl refl (up .ensures) (down .ensures) (counts .0) (counts .1) (c .before .before .put-back .last .0) back)
+    (left I (a .octets .now) (a .to-server .now) (a .to-client .now) (a .direction) side same size free took all (t .result) arrays out other
+    (t .ensures .0) (t .ensures .1 .0) (t .kept .1 .1 .1 .1 .0 ∙ lent-size I size) (isSet I 0) (isSet I 1) (up .result) (down .result) (counts .result .up)
+    (counts .result .down) refl refl (up .ensures) (down .ensures) (counts .ensures .0) (counts .ensures .1) (c .before .before .put-back .last .0)
+    (c .before .before .put-back .ensures))
 
 pub take-at-spec : {M : Type 1} → statement M
 take-at-spec =
@@ -155,14 +132,9 @@ take-at-spec =
     (tie.spec
     slice-read-live
     slice-read-supported
-    fixed-in-requires
     control-in-requires
     counts-at-requires
     counts-at-requires-2
-    sub-sixteen
-    part-sixteen-start
-    part-sixteen-end
-    sixteen-requires
     sub-take
     part-take-start
     part-take-end

@@ -1,0 +1,66 @@
+-- A run or an octet over what is lent: the lines are lent further, and the kinds are put back behind it.
+use mathlib.Core.Path.{_≡_, sym, ap, subst, _∙_}
+use mathlib.Core.Bool.{Bool}
+use mathlib.Core.List.{List}
+use Prim.Native.Nat.{ℕ, _-_}
+use native.Mathlib.Omega.{arith}
+use lib.ListN.{length, length-drop}
+use borrow.Rule.Slice.PartMut.{putMid, midOf}
+use Rattle.rules.specs.Answers.{Side}
+use Rattle.records.specs.declared.Control.{Control}
+use Rattle.steps.specs.declared.Fixed.{Fixed}
+use Rattle.steps.specs.declared.Written.{Written}
+use Rattle.steps.specs.Steps.{State}
+use Rattle.steps.specs.Takes.{commandIn, replyIn, stateIn, stateFrom, coreFrom, coreIn, kindsLent, addressesLent, stateLent, coreLent}
+use Rattle.steps.specs.Core.{Stepped}
+use Rattle.steps.specs.Runs.{Ran}
+use Rattle.steps.proofs.Lent.{put-size, lines-lent, lines-put, lines-kinds, lines-addresses, kinds-back, kinds-addresses}
+
+module _ (lent lines : List ℕ) (all : length lent ≡ 1058) (kept : length lines ≡ length (midOf 36 (length lent - 36) lent)) where
+  size : length lines ≡ length lent - 36
+  size = kept ∙ (ap length (lines-lent lent all) ∙ length-drop 36 lent)
+
+  -- the lent octets when the lines are back
+  abbrev pub then : List ℕ
+  then = putMid 36 (length lent - 36) lent lines
+
+  pub then-size : length then ≡ 1058
+  then-size = put-size 36 (length lent - 36) lent lines (omega (arith, all)) size ∙ all
+
+  pub then-state : (c : Control) → stateLent c then ≡ stateIn c lines (kindsLent lent)
+  then-state c =
+      λ i. stateIn c (lines-put lent all lines size i) (lines-kinds lent all lines size i)
+
+  pub then-addresses : addressesLent then ≡ addressesLent lent
+  then-addresses = lines-addresses lent all lines size
+
+  -- a run of any kind
+  pub run-over : (f : Fixed) (d : Side) (l : List ℕ) (c c′ : Control) (kinds sb cb sb′ cb′ : List ℕ) (w w′ : Written) (i j : ℕ)
+      → kinds ≡ kindsLent lent
+      → Ran f d l (coreIn c (midOf 36 (length lent - 36) lent) kinds sb cb w) i (coreIn c′ lines kinds sb′ cb′ w′) j
+      → Ran f d l (coreLent c lent sb cb w) i (coreLent c′ then sb′ cb′ w′) j
+  run-over f d l c c′ kinds sb cb sb′ cb′ w w′ i j e ran =
+      subst (λ (s : State). Ran f d l (coreLent c lent sb cb w) i (coreFrom s sb′ cb′ w′) j) (sym (then-state c′))
+      (subst (λ (m : List ℕ). Ran f d l (coreIn c m (kindsLent lent) sb cb w) i (coreIn c′ lines (kindsLent lent) sb′ cb′ w′) j)
+      (lines-lent lent all)
+      (subst (λ (k : List ℕ). Ran f d l (coreIn c (midOf 36 (length lent - 36) lent) k sb cb w) i (coreIn c′ lines k sb′ cb′ w′) j) e ran))
+
+  -- and an octet of any kind, behind which the kinds are put back
+  module _ (kinds : List ℕ) (sixteen : length kinds ≡ 16) where
+    pub put-state : (c : Control) → stateLent c (putMid 20 16 then kinds) ≡ stateIn c lines kinds
+    put-state c =
+        kinds-back then then-size kinds sixteen c
+        ∙ (λ i. stateFrom c (commandIn (lines-put lent all lines size i)) (replyIn (lines-put lent all lines size i)) kinds)
+
+    pub put-addresses : addressesLent (putMid 20 16 then kinds) ≡ addressesLent lent
+    put-addresses = kinds-addresses then then-size kinds sixteen ∙ then-addresses
+
+    pub octet-over : (f : Fixed) (d : Side) (x : ℕ) (c c′ : Control) (before sb cb sb′ cb′ : List ℕ) (w w′ : Written) (fit : Bool)
+        → before ≡ kindsLent lent
+        → Stepped f d x (coreIn c (midOf 36 (length lent - 36) lent) before sb cb w) fit (coreIn c′ lines kinds sb′ cb′ w′)
+        → Stepped f d x (coreLent c lent sb cb w) fit (coreLent c′ (putMid 20 16 then kinds) sb′ cb′ w′)
+    octet-over f d x c c′ before sb cb sb′ cb′ w w′ fit e stepped =
+        subst (λ (s : State). Stepped f d x (coreLent c lent sb cb w) fit (coreFrom s sb′ cb′ w′)) (sym (put-state c′))
+        (subst (λ (m : List ℕ). Stepped f d x (coreIn c m (kindsLent lent) sb cb w) fit (coreIn c′ lines kinds sb′ cb′ w′))
+        (lines-lent lent all)
+        (subst (λ (k : List ℕ). Stepped f d x (coreIn c (midOf 36 (length lent - 36) lent) k sb cb w) fit (coreIn c′ lines kinds sb′ cb′ w′)) e stepped))
