@@ -4,8 +4,9 @@
  * of one call do not overlap; counts and offset are aligned as their types ask. Nothing else is asked: any octets and any lengths are answered.
  *
  * The record is an image in the host's memory, FASHLEMOR_RECORD octets with no pointer in it. It may be copied, kept and moved between calls, and needs no
- * alignment. docs/RECORD.md has its layout. Octets behind the first FASHLEMOR_RECORD are neither read nor written. A record that is shorter, or whose
- * octets are no record (all zero, for example), is refused with 4 by an arrival and an end of a direction that there is. */
+ * alignment; at a multiple of 64 a call costs least. docs/RECORD.md has its layout. Octets behind the first
+ * FASHLEMOR_RECORD are neither read nor written. A record that is shorter, or whose octets are no record (all zero, for
+ * example), is refused with 4 by an arrival and an end of a direction that there is. */
 #ifndef FASHLEMOR_H
 #define FASHLEMOR_H
 

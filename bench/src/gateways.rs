@@ -70,7 +70,9 @@ impl Gateway for Ours {
     }
 }
 
+/// The reference, laid as ours is: each session begins on a cache line.
 #[derive(Clone)]
+#[repr(align(64))]
 pub struct Reference(reference::Gateway);
 
 impl Gateway for Reference {

@@ -63,8 +63,9 @@ pub struct Called {
     pub to_client: usize,
 }
 
-/// A session: its record and nothing else.
+/// A session: its record and nothing else, laid so that most calls need few cache lines of it.
 #[derive(Clone, PartialEq, Eq)]
+#[repr(align(64))]
 pub struct Session {
     record: [u8; RECORD],
 }
