@@ -6,7 +6,7 @@ use Prim.Native.Nat.{ℕ, zero, suc, _+_, _*_, _/_, _%_, _^_, _≤_, _<_}
 use native.Mathlib.Omega.{arith}
 use lib.Dec.{leb, eqb}
 use lib.ListN.{length, getD, take, drop}
-use lib.Seq.{drop-cons, drop-drop, take-add}
+use lib.Seq.{drop-cons, drop-drop, take-add, take-take}
 use borrow.Author.Tests.{leb-true}
 use Rattle.rules.specs.Octets.{choose, every}
 use Rattle.octets.proofs.Ranges.{and-both}
@@ -22,6 +22,7 @@ use Rattle.image.specs.Image.{
   imageOf,
   placeOf,
   numberAt,
+  isSet,
   part,
   countsAt,
   controlIn,
@@ -137,6 +138,13 @@ tests image ok =
 
 pub image-long : (image : List ℕ) → isImage image ≡ true → imageSize ≤ length image
 image-long image ok = tests image ok .0
+
+-- the two marks that no call changes
+pub fixed-marks : (image : List ℕ) → isImage image ≡ true → bit (isSet image 0) ∷ bit (isSet image 1) ∷ [] ≡ take 2 image
+unfolding marksOf fieldsIn
+fixed-marks image ok =
+    let t = tests image ok in
+    ap (take 2) (marks-same image (omega arith) (t .1) (t .2)) ∙ take-take 2 7 image (omega arith)
 
 pub written-same : WrittenSame
 unfolding sessionOf choose

@@ -7,8 +7,9 @@ use Prim.Native.Nat.{ℕ, _+_, _-_, _≤_}
 use native.Mathlib.Omega.{arith}
 use lib.Dec.{leb}
 use lib.ListN.{length, take, drop, length-drop, take-append-drop}
-use lib.Seq.{length-take-le, take-all, take-take, drop-drop}
-use borrow.Rule.Slice.PartMut.{putMid}
+use lib.Seq.{length-take-le, take-append-le, take-all, take-take, drop-drop}
+use borrow.Author.Tests.{not-false}
+use borrow.Rule.Slice.PartMut.{putMid, postOf, same-len-mid}
 use Rattle.rules.specs.Octets.{choose}
 use Rattle.rules.specs.Answers.{Side, client, server, sideOf, answerNumber, soundRecord, refusal, stop}
 use Rattle.rules.specs.declared.Answer.{Answer}
@@ -29,10 +30,11 @@ use Rattle.session.specs.declared.Called.{Called}
 use Rattle.session.specs.Calls.{Outcome, counted, takenFor, fixedOf, stateOf, sessionAfter, deadSession, refused, unlessRefused, arrived}
 use Rattle.session.proofs.Outcomes.{Promised, arrives}
 use Rattle.image.specs.declared.arrival.Told.{Told}
-use Rattle.image.specs.Image.{marksFrom, numbersFrom, marksOf, numbersOf, arraysOf, imageOf, isSet, part, countsAt, controlIn, fieldsIn, isImage, sessionOf}
+use Rattle.image.specs.Image.{bit, marksIn, marksFrom, numbersFrom, marksOf, numbersOf, arraysOf, imageOf, isSet, part, countsAt, controlIn, fieldsIn, isImage, sessionOf}
 use Rattle.image.specs.Lent.{imageAfter, serverAfter, clientAfter, Tells}
-use Rattle.image.proofs.Patch.{patched}
+use Rattle.image.proofs.Patch.{patched, rest-placed}
 use Rattle.image.proofs.Writing.{front-length}
+use Rattle.image.proofs.Again.{fixed-marks}
 use Rattle.image.proofs.Reading.{image-size, no-image, is-image}
 
 -- ---- an arrival that is not refused answers less than 3
@@ -148,12 +150,14 @@ module _ (image octets out other : List ℕ) (d : ℕ) (side : Side) (same : sid
         ∙ takes-below (fixedOf s) side (stateOf s) octets (length out) (length other))
 
     -- what is written back makes the image of the next record
-    module _ (live supported : Bool) (up down up′ down′ : Counts) (el : live ≡ isSet image 0) (es : supported ≡ isSet image 1)
-        (eu : up ≡ countsAt image 19) (ed : down ≡ countsAt image 27)
+    module _ (ok : isImage image ≡ true) (up down up′ down′ : Counts) (eu : up ≡ countsAt image 19) (ed : down ≡ countsAt image 27)
         (eu′ : up′ ≡ counted up (takenFor client side (t .taken)) (t .written .server))
         (ed′ : down′ ≡ counted down (takenFor server side (t .taken)) (t .written .client)) where
+      abbrev fixed : List ℕ
+      fixed = bit (isSet image 0) ∷ bit (isSet image 1) ∷ []
+
       abbrev marks : List ℕ
-      marks = marksFrom live supported (t .control)
+      marks = marksFrom (isSet image 0) (isSet image 1) (t .control)
 
       abbrev numbers : List ℕ
       numbers = numbersFrom (t .control) up′ down′
@@ -169,14 +173,25 @@ module _ (image octets out other : List ℕ) (d : ℕ) (side : Side) (same : sid
           let same : arrays ≡ part image 35 16 ++ (part image 51 4 ++ (kindsLent arrays ++ (commandIn (linesLent arrays) ++ replyIn (linesLent arrays)))) =
           sym (arrays-lent arrays) ∙ (λ i. kept i .client ++ (kept i .mapped ++ (kindsLent arrays ++ (commandIn (linesLent arrays) ++ replyIn (linesLent arrays))))) in
           append-assoc marks numbers arrays
-          ∙ (λ i. marksFrom (el i) (es i) (t .control) ++ (numbersFrom (t .control) (u i) (v i) ++ same i))
+          ∙ (λ i. marks ++ (numbersFrom (t .control) (u i) (v i) ++ same i))
 
-      pub left : (image′ : List ℕ) → image′ ≡ placed (putMid 35 1058 image arrays) 0 (marks ++ numbers)
+      -- the two marks that stay lie before what is written
+      all-marks : placed (putMid 35 1058 image arrays) 2 (marksIn (t .control) ++ numbers) ≡ placed (putMid 35 1058 image arrays) 0 (marks ++ numbers)
+      all-marks =
+          let head = length-take-le 35 image (omega arith) in
+          let front = front-length (isSet image 0) (isSet image 1) (t .control) up′ down′ in
+          let long = same-len-mid 35 1058 image arrays (size ∙ sym (lent-size image room)) in
+          let stay = fixed-marks image ok
+          ∙ sym (take-append-le 2 (take 35 image) (arrays ++ postOf 35 1058 image) (omega arith) ∙ take-take 2 35 image (omega arith)) in
+          rest-placed (putMid 35 1058 image arrays) fixed (marksIn (t .control) ++ numbers) (omega arith) stay
+
+      pub left : (image′ : List ℕ) → image′ ≡ placed (putMid 35 1058 image arrays) 2 (marksIn (t .control) ++ numbers)
           → Left o (record { answer = t .answer; taken = t .taken; written = t .written }) image image′ out out′ other other′
       unfolding serverAfter clientAfter imageAfter choose
       left image′ e =
           let p = promised .0 in
-          let back = e ∙ (patched image arrays (marks ++ numbers) room size (front-length live supported (t .control) up′ down′) ∙ ap (placed image 0) next-image) in (
+          let front = front-length (isSet image 0) (isSet image 1) (t .control) up′ down′ in
+          let back = e ∙ (all-marks ∙ (patched image arrays (marks ++ numbers) room size front ∙ ap (placed image 0) next-image)) in (
             (
               record { answer = ap (λ (k : Called). k .answer) p; taken = ap (λ (k : Called). k .taken) p; written = ap (λ (k : Called). k .written) p },
               back ∙ (ap (λ (k : Called). placed image 0 (imageOf (k .session))) p ∙ sym (rw below)),
@@ -219,6 +234,9 @@ module _ (image : List ℕ) (d : ℕ) (free : refusalOf (sessionOf image) d ≡ 
   by-test : (b : Bool) → b ≡ isImage image → not b ≡ false
   by-test true e = refl
   by-test false e = absurd (false≢true (dead-refuses d (ap (λ (s : Session). refusalOf s d) (no-image image e refl) ∙ free)))
+
+  pub free-image : isImage image ≡ true
+  free-image = not-false (isImage image) (by-test (isImage image) refl)
 
   pub free-size : 1093 ≤ length image
   free-size = image-size image {b = isImage image} refl (by-test (isImage image) refl)

@@ -2,12 +2,25 @@
 use mathlib.Core.Path.{_≡_, sym, ap, _∙_}
 use mathlib.Core.List.{List, _++_, append-assoc}
 use Prim.Native.Nat.{ℕ, _≤_}
+use native.Mathlib.Nat.{zero-add}
 use native.Mathlib.Omega.{arith}
-use lib.ListN.{length, take, drop, length-append}
+use lib.ListN.{length, take, drop, length-append, take-append-drop}
 use lib.Seq.{length-take-le, drop-at, drop-drop}
 use borrow.Rule.Slice.PartMut.{putMid, postOf}
 use Rattle.output.specs.Buffer.{placed}
+use Rattle.output.proofs.Placing.{placed-after}
 use Rattle.output.proofs.Front.{front-placed}
+
+-- a text that lies at the front already
+pub unchanged : (l text : List ℕ) → length text ≤ length l → text ≡ take (length text) l → placed l 0 text ≡ l
+unchanged l text room same =
+    front-placed l text room ∙ (ap (λ (x : List ℕ). x ++ drop (length text) l) same ∙ take-append-drop (length text) l)
+
+-- so only what follows it needs to be placed
+pub rest-placed : (l a b : List ℕ) → length (a ++ b) ≤ length l → a ≡ take (length a) l → placed l (length a) b ≡ placed l 0 (a ++ b)
+rest-placed l a b room same =
+    let there = unchanged l a (omega (arith, length-append a b)) same in
+    (λ i. placed (sym there i) (sym (zero-add (length a)) i) b) ∙ placed-after l 0 a b (omega arith)
 
 module _ (image lent head : List ℕ) (room : 1093 ≤ length image) (size : length lent ≡ 1058) (front : length head ≡ 35) where
   pub patched : placed (putMid 35 1058 image lent) 0 head ≡ placed image 0 (head ++ lent)

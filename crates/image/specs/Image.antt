@@ -40,10 +40,15 @@ capped n = choose (leb n (2 ^ 32 - 1)) n (2 ^ 32 - 1)
 
 -- ---- the image of a record
 
-abbrev pub marksFrom : Bool → Bool → Control → List ℕ
-marksFrom live supported c =
-    bit live ∷ bit supported ∷ bit (c .switches .epsv) ∷ bit (c .switches .eprt) ∷ bit (c .unfinished)
+-- the marks of a control, which calls can change
+abbrev pub marksIn : Control → List ℕ
+marksIn c =
+    bit (c .switches .epsv) ∷ bit (c .switches .eprt) ∷ bit (c .unfinished)
     ∷ placeNumber (c .client .place) ∷ placeNumber (c .server .place) ∷ []
+
+-- behind two that stay from the setup on
+abbrev pub marksFrom : Bool → Bool → Control → List ℕ
+marksFrom live supported c = bit live ∷ bit supported ∷ marksIn c
 
 unfoldable pub marksOf : Session → List ℕ
 marksOf s = marksFrom (s .live) (s .supported) (s .control)

@@ -68,7 +68,6 @@ fn take_at(
         × (now («to_client» .exit) ≡ clientAfter o (now («to_client» .entry))) ⌝ }
 {
     let from_client = direction == 0;
-    let live = image[0] == 1;
     let supported = image[1] == 1;
     let control = control_in(image);
     let up = counts_at(image, 19);
@@ -88,7 +87,7 @@ fn take_at(
     let counts = counts_then(up, down, from_client, t.taken, written);
     let sent = counts.up;
     let answered = counts.down;
-    put_back(image, live, supported, then, sent, answered);
+    put_back(image, then, sent, answered);
     Told {
         answer,
         taken: t.taken,

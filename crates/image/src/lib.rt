@@ -7,7 +7,7 @@ ghost use Rattle.output.specs.Buffer.{placed, placeAfter, PlacedInRoom};
 ghost use Rattle.records.specs.Sound.{refusalOf, refusalBy};
 ghost use Rattle.session.specs.Calls.{deadSession};
 ghost use Rattle.steps.specs.Takes.{Counted};
-ghost use Rattle.image.specs.Image.{bit as bitOf, placeNumber, fourOctets, capped as cappedAt, marksFrom, numbersBy, numbersFrom, arraysOf, imageOf, placeOf, numberAt, countsAt, controlIn, fieldsIn, atMost, isImage, sessionOf};
+ghost use Rattle.image.specs.Image.{bit as bitOf, placeNumber, fourOctets, capped as cappedAt, marksIn, marksFrom, numbersBy, numbersFrom, arraysOf, imageOf, placeOf, numberAt, countsAt, controlIn, fieldsIn, atMost, isImage, sessionOf};
 use output::four;
 use output::put;
 use output::sixteen;
@@ -54,14 +54,21 @@ pub fn put_image(image: &mut [u8], session: Session)
 fn put_marks(out: &mut [u8], at: usize, live: bool, supported: bool, control: Control) -> usize
     ensures { λ r. ⌜ PlacedInRoom (now (out .entry)) at (marksFrom live supported control) r (now (out .exit)) ⌝ }
 {
+    let fixed = [bit(live), bit(supported)];
+    let next = put(out, at, &fixed);
+    put_control(out, next, control)
+}
+
+// The marks that calls can change.
+fn put_control(out: &mut [u8], at: usize, control: Control) -> usize
+    ensures { λ r. ⌜ PlacedInRoom (now (out .entry)) at (marksIn control) r (now (out .exit)) ⌝ }
+{
     let switches = control.switches;
     let client = control.client;
     let server = control.server;
     let client_place = client.place;
     let server_place = server.place;
     let marks = [
-        bit(live),
-        bit(supported),
         bit(switches.epsv),
         bit(switches.eprt),
         bit(control.unfinished),
@@ -159,25 +166,18 @@ fn put_arrays(out: &mut [u8], at: usize, session: Session) -> usize
     put(out, next, &reply)
 }
 
-// Writes the marks and numbers of a record back. The arrays lie there already.
-fn put_back(
-    image: &mut [u8],
-    live: bool,
-    supported: bool,
-    control: Control,
-    up: Counts,
-    down: Counts,
-)
+// Writes what calls can change of the marks and numbers back. The rest lies there already.
+fn put_back(image: &mut [u8], control: Control, up: Counts, down: Counts)
     requires { ⌜ (1093 ≤ length (now image)) × Counted control ⌝ }
     ensures { λ _.
-        ⌜ now (image .exit) ≡ placed (now (image .entry)) 0 (marksFrom live supported control ++ numbersFrom control up down) ⌝ }
+        ⌜ now (image .exit) ≡ placed (now (image .entry)) 2 (marksIn control ++ numbersFrom control up down) ⌝ }
 {
     let said = control.client;
     let answered = control.server;
     let owed = uncapped(control.owed);
     let command = uncapped(said.held);
     let reply = uncapped(answered.held);
-    let marked = put_marks(image, 0, live, supported, control);
+    let marked = put_control(image, 2, control);
     put_numbers(image, marked, owed, command, reply, up, down);
 }
 

@@ -1,7 +1,8 @@
--- `image::put_back`: marks and numbers at the front.
+-- `image::put_back`: five marks and the numbers behind two marks.
+use mathlib.Core.Bool.{true}
 use native.Mathlib.Omega.{arith}
 use Rattle.output.proofs.Placing.{joined}
-use Rattle.image.specs.Image.{marksFrom, numbersFrom}
+use Rattle.image.specs.Image.{marksIn, numbersFrom}
 use Rattle.image.proofs.Writing.{numbers-put, front-length}
 use borrow.Author.Needs.{needs}
 use Rattle.image.proofs.put_back.Statement.{statement}
@@ -21,11 +22,11 @@ returns c =
     let start = c .before .before .before .before .before .before .before .before .before .before .before .before .before .before in
     let a = start .args in
     let size = start .pre .0 in
-    let long = front-length (a .live) (a .supported) (a .control) (a .up) (a .down) in
+    let long = front-length true true (a .control) (a .up) (a .down) in
     let numbers = numbers-put _ _ (a .control) (a .up) (a .down) (c .before .before .before .before .before .before .before .before .before .before .uncapped .ensures) (c .before .before .before .before .before .before .before .before .before .uncapped2 .ensures) (c .before .before .before .before .before .before .before .before .uncapped3 .ensures)
     (c .before .before .put-numbers .ensures) in
-    joined (a .image .now) 0 (marksFrom (a .live) (a .supported) (a .control)) (numbersFrom (a .control) (a .up) (a .down))
-    (c .before .before .before .before .before .before .put-marks .ensures) numbers (omega arith) .1
+    joined (a .image .now) 2 (marksIn (a .control)) (numbersFrom (a .control) (a .up) (a .down))
+    (c .before .before .before .before .before .before .put-control .ensures) numbers (omega arith) .1
 
 pub put-back-spec : {M : Type 1} → statement M
 put-back-spec =

@@ -14,37 +14,31 @@ use Rattle.records.specs.Sound.{refusalOf}
 use Rattle.steps.specs.Takes.{sideIf, tookIn}
 use Rattle.image.specs.Image.{isSet, part}
 use Rattle.image.specs.Lent.{arrivedAt}
-use Rattle.image.proofs.Arrivals.{Left, lent, lent-size, lent-all, left, free-size, free-fields, free-counts}
+use Rattle.image.proofs.Arrivals.{Left, lent, lent-size, lent-all, left, free-image, free-size, free-fields, free-counts}
 use Rattle.image.proofs.arrival.take_at.Statement.{statement}
 use Rattle.image.proofs.arrival.take_at.Tie as tie
 
-slice-read-live : tie.Need-slice-read-live
-slice-read-live c =
-    let start = c .before .before .before .before .before in
-    let size = free-size (start .args .image .now) (start .args .direction) (start .pre) in
-    omega arith
-
 slice-read-supported : tie.Need-slice-read-supported
 slice-read-supported c =
-    let start = c .before .before .before .before .before .before in
+    let start = c .before .before .before .before .before in
     let size = free-size (start .args .image .now) (start .args .direction) (start .pre) in
     omega arith
 
 control-in-requires : tie.Need-control-in-requires
 control-in-requires c κs =
-    let start = c .before .before .before .before .before .before .before in
+    let start = c .before .before .before .before .before .before in
     let size = free-size (start .args .image .now) (start .args .direction) (start .pre) in
     size
 
 counts-at-requires : tie.Need-counts-at-requires
 counts-at-requires c κs =
-    let start = c .before .before .before .before .before .before .before .before .before in
+    let start = c .before .before .before .before .before .before .before .before in
     let size = free-size (start .args .image .now) (start .args .direction) (start .pre) in
     omega arith
 
 counts-at-requires-2 : tie.Need-counts-at-requires-2
 counts-at-requires-2 c κs =
-    let start = c .before .before .before .before .before .before .before .before .before .before .before in
+    let start = c .before .before .before .before .before .before .before .before .before .before in
     let size = free-size (start .args .image .now) (start .args .direction) (start .pre) in
     omega arith
 
@@ -56,7 +50,7 @@ part-take-start c = search needs
 
 part-take-end : tie.Need-part-take-end
 part-take-end c =
-    let start = c .before .before .before .before .before .before .before .before .before .before .before .before in
+    let start = c .before .before .before .before .before .before .before .before .before .before .before in
     let size = free-size (start .args .image .now) (start .args .direction) (start .pre) in
     omega arith
 
@@ -68,7 +62,7 @@ counts-then-requires c κs = search needs
 
 put-back-requires : tie.Need-put-back-requires
 put-back-requires c κs =
-    let start = c .before .before .before .before .before .before .before .before .before .before .before .before .before .before .before .before .before .before .before .before .before .before .before .before .before .before .before .before in
+    let start = c .before .before .before .before .before .before .before .before .before .before .before .before .before .before .before .before .before .before .before .before .before .before .before .before .before .before .before in
     let a = start .args in
     let I = a .image .now in
     let size = free-size I (a .direction) (start .pre) in
@@ -79,7 +73,7 @@ put-back-requires c κs =
 
 same-length : tie.Need-same-length
 same-length c =
-    let start = c .before .before .before .before .before .before .before .before .before .before .before .before .before .before .before .before .before .before .before .before .before .before .before .before .before .before .before .before .before .before .before in
+    let start = c .before .before .before .before .before .before .before .before .before .before .before .before .before .before .before .before .before .before .before .before .before .before .before .before .before .before .before .before .before .before in
     let a = start .args in
     let I = a .image .now in
     let size = free-size I (a .direction) (start .pre) in
@@ -98,7 +92,7 @@ same-length-3 c = search needs
 returns : tie.Need-returns
 unfolding arrivedAt
 returns c =
-    let start = c .before .before .before .before .before .before .before .before .before .before .before .before .before .before .before .before .before .before .before .before .before .before .before .before .before .before .before .before .before .before .before in
+    let start = c .before .before .before .before .before .before .before .before .before .before .before .before .before .before .before .before .before .before .before .before .before .before .before .before .before .before .before .before .before .before in
     let a = start .args in
     let I = a .image .now in
     let size = free-size I (a .direction) (start .pre) in
@@ -122,15 +116,14 @@ returns c =
     (a .to-server .now) out (a .to-client .now) other)
     fields
     (left I (a .octets .now) (a .to-server .now) (a .to-client .now) (a .direction) side same size free took all (t .result) arrays out other
-    (t .ensures .0) (t .ensures .1 .0) (t .kept .1 .1 .1 .1 .0 ∙ lent-size I size) (isSet I 0) (isSet I 1) (up .result) (down .result) (counts .result .up)
-    (counts .result .down) refl refl (up .ensures) (down .ensures) (counts .ensures .0) (counts .ensures .1) (c .before .before .put-back .last .0)
+    (t .ensures .0) (t .ensures .1 .0) (t .kept .1 .1 .1 .1 .0 ∙ lent-size I size) (free-image I (a .direction) (start .pre)) (up .result) (down .result) (counts .result .up)
+    (counts .result .down) (up .ensures) (down .ensures) (counts .ensures .0) (counts .ensures .1) (c .before .before .put-back .last .0)
     (c .before .before .put-back .ensures))
 
 pub take-at-spec : {M : Type 1} → statement M
 take-at-spec =
     tie.close
     (tie.spec
-    slice-read-live
     slice-read-supported
     control-in-requires
     counts-at-requires
