@@ -6,10 +6,12 @@ use Prim.Native.Nat.{ℕ, zero, suc, _+_, _*_, _/_, _%_, _^_, _≤_, _<_}
 use native.Mathlib.Omega.{arith}
 use lib.Dec.{leb, eqb}
 use lib.ListN.{length, getD, take, drop}
-use lib.Seq.{drop-cons, drop-drop, take-add, take-take}
+use lib.Seq.{drop-cons, drop-drop, length-take-le, take-add, take-take}
 use borrow.Author.Tests.{leb-true}
 use Rattle.rules.specs.Octets.{choose, every}
+use Rattle.rules.specs.Answers.{wrapped}
 use Rattle.octets.proofs.Ranges.{and-both}
+use Rattle.output.specs.Buffer.{placed}
 use Rattle.image.specs.Image.{
   imageSize,
   bit,
@@ -32,6 +34,7 @@ use Rattle.image.specs.Image.{
   sessionOf,
   WrittenSame,
 }
+use Rattle.image.proofs.Patch.{unchanged}
 use Rattle.image.proofs.Back.{capped-same}
 
 -- ---- one value
@@ -146,6 +149,28 @@ fixed-marks image ok =
     let t = tests image ok in
     ap (take 2) (marks-same image (omega arith) (t .1) (t .2)) ∙ take-take 2 7 image (omega arith)
 
+module _ (image : List ℕ) (ok : isImage image ≡ true) (octets : (i : ℕ) → getD image i 0 < 256) where
+  fields-same : imageOf (fieldsIn image) ≡ take imageSize image
+  fields-same = let t = tests image ok in image-same image (t .0) octets (t .1) (t .2)
+
+  pub fields-size : length (imageOf (fieldsIn image)) ≡ imageSize
+  fields-size = ap length fields-same ∙ length-take-le imageSize image (image-long image ok)
+
+  -- so it lies in memory already
+  pub lies : placed image 0 (imageOf (fieldsIn image)) ≡ image
+  lies =
+      let long = image-long image ok in
+      unchanged image (imageOf (fieldsIn image)) (omega (arith, fields-size)) (fields-same ∙ ap (λ (n : ℕ). take n image) (sym fields-size))
+
+  pub record-lies : placed image 0 (imageOf (sessionOf image)) ≡ image
+  unfolding sessionOf choose
+  record-lies = rw ok lies
+
+  -- a count to which nothing is added
+  pub count-kept : (i : ℕ) → wrapped (numberAt image i + 0) ≡ numberAt image i
+  unfolding wrapped
+  count-kept i = omega (arith, number-low image (image-long image ok) octets i)
+
 pub written-same : WrittenSame
 unfolding sessionOf choose
-written-same image ok octets = let t = tests image ok in rw ok (image-same image (t .0) octets (t .1) (t .2))
+written-same image ok octets = rw ok (fields-same image ok octets)

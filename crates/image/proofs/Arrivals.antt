@@ -27,11 +27,11 @@ use Rattle.steps.specs.Takes.{Took, takes, unlessStopped, stopOf, tookIn, comma
 use Rattle.steps.proofs.Lent.{from-front, fixed-same}
 use Rattle.steps.proofs.Takes.{took-all, counts-holdable}
 use Rattle.session.specs.declared.Called.{Called}
-use Rattle.session.specs.Calls.{Outcome, counted, takenFor, fixedOf, stateOf, sessionAfter, deadSession, refused, unlessRefused, arrived}
+use Rattle.session.specs.Calls.{Outcome, counted, takenFor, fixedOf, stateOf, sessionAfter, deadSession, refused, unlessRefused, arrived, ended}
 use Rattle.session.proofs.Outcomes.{Promised, arrives}
 use Rattle.image.specs.declared.arrival.Told.{Told}
 use Rattle.image.specs.Image.{bit, marksIn, marksFrom, numbersFrom, marksOf, numbersOf, arraysOf, imageOf, isSet, part, countsAt, controlIn, fieldsIn, isImage, sessionOf}
-use Rattle.image.specs.Lent.{imageAfter, serverAfter, clientAfter, Tells}
+use Rattle.image.specs.Lent.{arrivedAt, endedAt, imageAfter, serverAfter, clientAfter, Tells}
 use Rattle.image.proofs.Patch.{patched, rest-placed}
 use Rattle.image.proofs.Writing.{front-length}
 use Rattle.image.proofs.Again.{fixed-marks}
@@ -215,13 +215,26 @@ refused-below d sound ended a =
     told none = false
     told (some b) = leb 3 (answerNumber b)
 
-pub turned-away-at : (image octets out other : List ℕ) (d : ℕ) {q : Refusal} {a : Answer} → q ≡ refusalBy (refusalOf (sessionOf image) d) → q ≡ Refusal.By a
-    → Left (arrived (sessionOf image) d octets (length out) (length other)) (record { answer = a; taken = 0; written = record { server = 0; client = 0 } })
-    image image out out other other
-unfolding arrived unlessRefused refused imageAfter serverAfter clientAfter choose refusalOf
-turned-away-at image octets out other d {q} {a} p e =
-    let by = by-answer (refusalOf (sessionOf image) d) a (sym p ∙ e) in
-    rw by ((record { answer = refl; taken = refl; written = refl }, rw (refused-below d _ _ a by)), (refl, refl))
+-- what code tells of it
+abbrev pub ToldOnly : Told → Answer → Type 0
+ToldOnly r a = r ≡ record { answer = a; taken = 0; written = record { server = 0; client = 0 } }
+
+module _ (image out other : List ℕ) (d : ℕ) {q : Refusal} {a : Answer} {r : Told} (p : q ≡ refusalBy (refusalOf (sessionOf image) d)) (e : q ≡ Refusal.By a)
+    (told : ToldOnly r a) where
+  -- the call w is refused before it is made
+  turned-away : (w : Outcome) → Left (unlessRefused (refusalOf (sessionOf image) d) (sessionOf image) w) r image image out out other other
+  unfolding unlessRefused refused imageAfter serverAfter clientAfter choose refusalOf
+  turned-away w =
+      let by = by-answer (refusalOf (sessionOf image) d) a (sym p ∙ e) in
+      rw (by, told) ((record { answer = refl; taken = refl; written = refl }, rw (refused-below d _ _ a by)), (refl, refl))
+
+  pub arrival-refused : (octets : List ℕ) → Left (arrivedAt image d octets out other) r image image out out other other
+  unfolding arrivedAt arrived
+  arrival-refused octets = turned-away _
+
+  pub end-refused : Left (endedAt image d out other) r image image out out other other
+  unfolding endedAt ended
+  end-refused = turned-away _
 
 -- ---- memory whose record refuses nothing is an image
 

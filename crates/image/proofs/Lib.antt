@@ -5,3 +5,5 @@ pub mod Patch
 pub mod Arrivals
 pub mod Back
 pub mod Again
+pub mod Changing
+pub mod Endings

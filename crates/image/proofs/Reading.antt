@@ -101,7 +101,10 @@ module _ (image : List ℕ) (d : ℕ) {b : Bool} (e : b ≡ isImage image) where
   pub refused-no-image : not b ≡ true → d < 2 → Refusal.By Answer.BadRecord ≡ refusalBy (refusalOf (sessionOf image) d)
   refused-no-image t h = dead-refused d h ∙ ap (λ (s : Session). refusalBy (refusalOf s d)) (no-image image e t)
 
-  pub refused-by-parts : not b ≡ false → {control : Control} → control ≡ controlIn image → {kinds : List ℕ} → kinds ≡ part image 55 16
-      → {r : Refusal} → r ≡ refusalBy (refusalOn (isSet image 0) control kinds d) → r ≡ refusalBy (refusalOf (sessionOf image) d)
-  unfolding refusalOf sound fieldsIn
-  refused-by-parts t p q r = r ∙ rw (p, q) (ap (λ (s : Session). refusalBy (refusalOf s d)) (is-image image e t))
+  pub refused-image : not b ≡ false → {r : Refusal} → r ≡ refusalBy (refusalOf (fieldsIn image) d) → r ≡ refusalBy (refusalOf (sessionOf image) d)
+  refused-image t r = r ∙ ap (λ (s : Session). refusalBy (refusalOf s d)) (is-image image e t)
+
+pub refused-by-parts : (image : List ℕ) (d : ℕ) {control : Control} → control ≡ controlIn image → {kinds : List ℕ} → kinds ≡ part image 55 16
+    → {r : Refusal} → r ≡ refusalBy (refusalOn (isSet image 0) control kinds d) → r ≡ refusalBy (refusalOf (fieldsIn image) d)
+unfolding refusalOf sound fieldsIn
+refused-by-parts image d p q r = r ∙ rw (p, q)

@@ -5,10 +5,13 @@ use Prim.Native.Nat.{ℕ}
 use lib.Dec.{leb}
 use lib.ListN.{length, drop}
 use Rattle.rules.specs.Octets.{choose}
-use Rattle.rules.specs.Answers.{answerNumber}
+use Rattle.rules.specs.Answers.{Side, client, server, answerNumber}
 use Rattle.output.specs.Buffer.{placed}
+use Rattle.records.specs.declared.Session.{Session}
+use Rattle.records.specs.Sound.{directionOf}
+use Rattle.steps.specs.declared.Written.{Written}
 use Rattle.session.specs.declared.Called.{Called}
-use Rattle.session.specs.Calls.{Outcome, arrived, ended}
+use Rattle.session.specs.Calls.{Outcome, stateOf, sessionAfter, arrived, endStep, endOutcome, ended}
 use Rattle.image.specs.declared.arrival.Told.{Told}
 use Rattle.image.specs.Image.{imageOf, sessionOf}
 
@@ -30,6 +33,44 @@ serverAfter o out = o .toServer ++ drop (o .called .written .server) out
 
 unfoldable pub clientAfter : Outcome → List ℕ → List ℕ
 clientAfter o out = o .toClient ++ drop (o .called .written .client) out
+
+-- an end that nothing refuses, by the room in the one buffer that the held octets go to
+unfoldable pub heldEnd : Session → Side → ℕ → Outcome
+heldEnd s d room = endOutcome s d (endStep d (stateOf s)) (leb (directionOf d (s .control) .held) room)
+
+-- that buffer then
+unfoldable pub bufferAfter : Side → Outcome → List ℕ → List ℕ
+bufferAfter client o out = serverAfter o out
+bufferAfter server o out = clientAfter o out
+
+-- n octets written for a side: the client's go to the server
+abbrev pub writtenFrom : Side → ℕ → Written
+writtenFrom client n = record { server = n; client = 0 }
+writtenFrom server n = record { server = 0; client = n }
+
+-- the record after a side has ended, and n octets of it were written
+abbrev pub endedWith : Session → Side → ℕ → Session
+endedWith s d n = sessionAfter s d 0 (writtenFrom d n .server) (writtenFrom d n .client) (endStep d (stateOf s) .state)
+
+-- where an image has a side's place
+abbrev pub placeAt : Side → ℕ
+placeAt client = 5
+placeAt server = 6
+
+-- the number of its held octets
+abbrev pub heldAt : Side → ℕ
+heldAt client = 11
+heldAt server = 15
+
+-- its line: the command's, or the reply's
+abbrev pub lineAt : Side → ℕ
+lineAt client = 71
+lineAt server = 582
+
+-- and the count of what was written for it
+abbrev pub writtenAt : Side → ℕ
+writtenAt client = 23
+writtenAt server = 31
 
 -- what a call returned, beside the record
 pub record Tells (r : Told) (k : Called) : Type 0 where

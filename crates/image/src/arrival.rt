@@ -6,8 +6,9 @@ ghost use Rattle.image.specs.Image.{sessionOf};
 ghost use Rattle.image.specs.Lent.{arrivedAt, imageAfter, serverAfter, clientAfter, Tells};
 use crate::control_in;
 use crate::counts_at;
+use crate::is_image;
 use crate::put_back;
-use crate::refusal_at;
+use crate::refusal_in;
 use records::Refusal;
 use rules::Answer;
 use session::counts_then;
@@ -37,15 +38,14 @@ pub fn arrive_at(
         ⌜ (now («to_server» .exit) ≡ serverAfter o (now («to_server» .entry)))
         × (now («to_client» .exit) ≡ clientAfter o (now («to_client» .entry))) ⌝ }
 {
-    if let Refusal::By(answer) = refusal_at(image, direction) {
-        return Told {
-            answer,
-            taken: 0,
-            written: Written {
-                server: 0,
-                client: 0,
-            },
-        };
+    if 2 <= direction {
+        return nothing_written(Answer::UnknownDirection);
+    }
+    if !is_image(image) {
+        return nothing_written(Answer::BadRecord);
+    }
+    if let Refusal::By(answer) = refusal_in(image, direction) {
+        return nothing_written(answer);
     }
     take_at(image, direction, octets, to_server, to_client)
 }
@@ -92,5 +92,19 @@ fn take_at(
         answer,
         taken: t.taken,
         written,
+    }
+}
+
+// What is told of a call that takes and writes nothing.
+pub fn nothing_written(answer: Answer) -> Told
+    ensures { λ r. ⌜ r ≡ record { answer = answer; taken = 0; written = record { server = 0; client = 0 } } ⌝ }
+{
+    Told {
+        answer,
+        taken: 0,
+        written: Written {
+            server: 0,
+            client: 0,
+        },
     }
 }

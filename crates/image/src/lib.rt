@@ -18,15 +18,16 @@ use records::Counts;
 use records::Refusal;
 use records::Session;
 use records::refusal_on;
-use rules::Answer;
 use rules::Switches;
 use session::held_line;
 use session::refused_setup;
 
 mod arrival;
+mod ending;
 
 pub use arrival::Told;
 pub use arrival::arrive_at;
+pub use ending::end_at;
 
 // The octets of an image.
 pub const SIZE: usize = 1093;
@@ -254,15 +255,10 @@ fn fields(image: &[u8]) -> Session
 }
 
 // What refuses a call on the record of an image, told from its marks, numbers and kinds alone.
-fn refusal_at(image: &[u8], direction: u8) -> Refusal
-    ensures { λ r. ⌜ r ≡ refusalBy (refusalOf (sessionOf (now (image .entry))) direction) ⌝ }
+fn refusal_in(image: &[u8], direction: u8) -> Refusal
+    requires { ⌜ 1093 ≤ length (now image) ⌝ }
+    ensures { λ r. ⌜ r ≡ refusalBy (refusalOf (fieldsIn (now (image .entry))) direction) ⌝ }
 {
-    if 2 <= direction {
-        return Refusal::By(Answer::UnknownDirection);
-    }
-    if !is_image(image) {
-        return Refusal::By(Answer::BadRecord);
-    }
     let control = control_in(image);
     let kinds = sixteen(&image[55..71]);
     refusal_on(image[0] == 1, control, kinds, direction)

@@ -1,9 +1,9 @@
 -- The calls of a host in C, from what the session and the image promise.
 use mathlib.Core.Path.{_≡_, ap, sym, _∙_}
-use mathlib.Core.List.{List, _++_}
+use mathlib.Core.List.{List}
 use Prim.Native.Nat.{ℕ, _≤_, _<_}
 use native.Mathlib.Omega.{arith}
-use lib.ListN.{length, drop, replicate}
+use lib.ListN.{length, replicate}
 use borrow.Author.Tests.{eq-eqb, ne-eqb, le-leb, lt-leb}
 use Rattle.rules.specs.Octets.{choose}
 use Rattle.rules.specs.Answers.{answerNumber}
@@ -17,7 +17,7 @@ use Rattle.session.specs.Calls.{Outcome, prepared, offset}
 use Rattle.image.specs.Image.{imageSize, imageOf, sessionOf}
 use Rattle.output.proofs.Front.{filled}
 use Rattle.image.specs.declared.arrival.Told.{Told}
-use Rattle.image.specs.Lent.{imageAfter, serverAfter, clientAfter, Tells}
+use Rattle.image.specs.Lent.{imageAfter, Tells}
 use Rattle.relay.specs.Host.{refusedSetup, preparedFrom, setupNumber, countsFrom, countsAfter, offsetNumber, offsetAfter}
 
 -- ---- setup
@@ -67,36 +67,7 @@ module _ (image : List ℕ) (k : Called) {n : ℕ} (number : n ≡ answerNumber 
   unfolding imageAfter choose
   written-back h = rw (lt-leb 3 (answerNumber (k .answer)) (omega arith))
 
--- ---- an arrival or an end, by what it makes of a record
-
-module _ (image : List ℕ) (made : Session → Outcome) (toServer toClient counts : List ℕ) where
-  abbrev pub Promised : ℕ → List ℕ → List ℕ → List ℕ → List ℕ → Type 0
-  Promised n image′ toServer′ toClient′ counts′ =
-      (n ≡ answerNumber (made (sessionOf image) .called .answer))
-      × ((image′ ≡ imageAfter image (made (sessionOf image) .called))
-      × ((toServer′ ≡ serverAfter (made (sessionOf image)) toServer)
-      × ((toClient′ ≡ clientAfter (made (sessionOf image)) toClient)
-      × (counts′ ≡ countsAfter (made (sessionOf image) .called) counts))))
-
-  pub told : {s : Session} {k : Called} {n : ℕ} {image′ toServer′ toClient′ counts′ : List ℕ} → s ≡ sessionOf image → k ≡ made s .called
-      → toServer′ ≡ made s .toServer ++ drop (k .written .server) toServer → toClient′ ≡ made s .toClient ++ drop (k .written .client) toClient
-      → counts′ ≡ countsAfter k counts → n ≡ answerNumber (k .answer) → image′ ≡ imageAfter image k
-      → Promised n image′ toServer′ toClient′ counts′
-  unfolding serverAfter clientAfter
-  told {s} e p server client counted number kept′ =
-      let same = p ∙ ap (λ (x : Session). made x .called) e in (
-        number ∙ ap (λ (x : Called). answerNumber (x .answer)) same,
-        (
-          kept′ ∙ ap (imageAfter image) same,
-          (
-            server ∙ (ap (λ (x : Called). made s .toServer ++ drop (x .written .server) toServer) p ∙ ap (λ (x : Session). made x .toServer ++ drop (made x .called .written .server) toServer) e),
-            (
-              client ∙ (ap (λ (x : Called). made s .toClient ++ drop (x .written .client) toClient) p ∙ ap (λ (x : Session). made x .toClient ++ drop (made x .called .written .client) toClient) e),
-              counted ∙ ap (λ (x : Called). countsAfter x counts) same,
-            ),
-          ),
-        ),
-      )
+-- ---- an arrival or an end
 
 -- the number and the counts that tell of a call
 pub numbers-told : (o : Outcome) (r : Told) (counts : List ℕ) {n : ℕ} {counts′ : List ℕ} → Tells r (o .called) → n ≡ answerNumber (r .answer)

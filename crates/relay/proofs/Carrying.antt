@@ -6,8 +6,7 @@ use mathlib.Core.Option.{Option, none, some}
 use Prim.Native.Nat.{ℕ, _^_, _≤_, _<_}
 use native.Mathlib.Omega.{arith}
 use lib.Dec.{leb}
-use lib.ListN.{length, take, drop, take-append-drop}
-use lib.Seq.{length-take-le}
+use lib.ListN.{length, drop}
 use borrow.Author.Tests.{leb-true, leb-false}
 use Rattle.rules.specs.Octets.{choose}
 use Rattle.rules.specs.Lines.{judged}
@@ -28,7 +27,7 @@ use Rattle.answers.proofs.Table.{refused-untouched, end-two, end-two-untouched,
 use Rattle.image.specs.Image.{imageSize, imageOf, fieldsIn, isImage, sessionOf, Sized, Wrapped}
 use Rattle.image.proofs.Writing.{image-length}
 use Rattle.image.proofs.Back.{read-back}
-use Rattle.image.proofs.Again.{image-long, written-same}
+use Rattle.image.proofs.Again.{record-lies}
 use Rattle.image.specs.Lent.{endedAt, imageAfter}
 use Rattle.relay.specs.Carried.{Holds, Begun, Carried, EndKeeps}
 use Rattle.relay.proofs.Calls.{from-slices, kept, written-back}
@@ -135,12 +134,6 @@ unfolding choose deadSession
 not-dead image true e = refl
 not-dead image false e = e
 
--- a record whose image stands in memory already
-unchanged : (image : List ℕ) (s : Session) → imageSize ≤ length image → imageOf s ≡ take imageSize image → placed image 0 (imageOf s) ≡ image
-unchanged image s long same =
-    let size : length (imageOf s) ≡ imageSize = ap length same ∙ length-take-le imageSize image long in
-    front-placed image (imageOf s) (omega arith) ∙ rw (size, same) (take-append-drop imageSize image)
-
 pub end-keeps : EndKeeps
 unfolding endedAt sessionOf
 end-keeps image direction toServer toClient octets two =
@@ -148,4 +141,4 @@ end-keeps image direction toServer toClient octets two =
     let k = ended (sessionOf image) direction (length toServer) (length toClient) .called in
     let ok = not-dead image (isImage image) (end-two c .0 two .0 .sound .live) in
     sym (written-back image k refl (omega arith))
-    ∙ (ap (λ (s : Session). placed image 0 (imageOf s)) (end-two-untouched c two .session) ∙ unchanged image (sessionOf image) (image-long image ok) (written-same image ok octets))
+    ∙ (ap (λ (s : Session). placed image 0 (imageOf s)) (end-two-untouched c two .session) ∙ record-lies image ok octets)

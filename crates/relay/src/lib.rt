@@ -8,16 +8,15 @@ ghost use Rattle.image.specs.Image.{imageOf, sessionOf};
 ghost use Rattle.image.specs.Lent.{arrivedAt, endedAt, imageAfter, serverAfter, clientAfter};
 ghost use Rattle.relay.specs.Host.{preparedFrom, setupNumber, countsFrom, countsAfter, offsetNumber, offsetAfter};
 use image::arrive_at;
+use image::end_at;
 use image::put_image;
 use image::read_image;
 use kinds::number_of;
 use output::four;
 use output::sixteen;
 use rules::Answer;
-use session::Called;
 use session::DirectionOffset;
 use session::Prepared;
-use session::end;
 use session::offset;
 use session::refused_setup;
 use session::setup;
@@ -91,26 +90,11 @@ pub extern "C" fn fashlemor_end(
     ensures { λ r. ⌜ now («to_client» .exit) ≡ clientAfter (endedAt (now (image .entry)) direction (now («to_server» .entry)) (now («to_client» .entry))) (now («to_client» .entry)) ⌝ }
     ensures { λ r. ⌜ now (counts .exit) ≡ countsAfter (endedAt (now (image .entry)) direction (now («to_server» .entry)) (now («to_client» .entry)) .called) (now (counts .entry)) ⌝ }
 {
-    let session = read_image(image);
-    let called = end(session, direction, to_server, to_client);
-    let written = called.written;
-    put_counts(counts, called.taken, written);
-    keep(image, called)
-}
-
-// Writes the record back unless the call was refused, and tells the answer's number.
-fn keep(image: &mut [u8], called: Called) -> u8
-    ensures { λ r. ⌜ r ≡ answerNumber (called .answer) ⌝ }
-    ensures { λ r. ⌜ now (image .exit) ≡ imageAfter (now (image .entry)) called ⌝ }
-{
-    let answer = called.answer;
-    let number = number_of(answer);
-    if 3 <= number {
-        return number;
-    }
-    let session = called.session;
-    put_image(image, session);
-    number
+    let done = end_at(image, direction, to_server, to_client);
+    let answer = done.answer;
+    let written = done.written;
+    put_counts(counts, done.taken, written);
+    number_of(answer)
 }
 
 // Octets taken, written to the server and written to the client, if there is room for three numbers.

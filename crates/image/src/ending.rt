@@ -1,0 +1,139 @@
+// The end of a direction on the record where it lies: the held octets go out from their line, and the three fields that change are written.
+ghost use mathlib.Core.Path.{_≡_};
+ghost use mathlib.Core.Bool.{true};
+ghost use Prim.Native.Nat.{_≤_};
+ghost use Rattle.output.specs.Buffer.{placed};
+ghost use Rattle.steps.specs.Takes.{sideIf, Counted};
+ghost use lib.ListN.{length};
+ghost use Rattle.image.specs.Image.{imageOf, controlIn, fieldsIn, isImage};
+ghost use Rattle.image.specs.Lent.{endedAt, heldEnd, endedWith, placeAt, heldAt, lineAt, writtenAt, writtenFrom, imageAfter, serverAfter, clientAfter, bufferAfter, Tells};
+use crate::Told;
+use crate::arrival::nothing_written;
+use crate::is_image;
+use crate::number_at;
+use crate::put_number;
+use crate::refusal_in;
+use output::put;
+use records::Refusal;
+use rules::Answer;
+use steps::Written;
+
+// A direction ends: its held octets go into its buffer. A call that is refused, or has no room for them, leaves the image as it was.
+pub fn end_at(image: &mut [u8], direction: u8, to_server: &mut [u8], to_client: &mut [u8]) -> Told
+    ensures { λ r.
+        let o = endedAt (now (image .entry)) direction (now («to_server» .entry)) (now («to_client» .entry)) in
+        ⌜ Tells r (o .called) × (now (image .exit) ≡ imageAfter (now (image .entry)) (o .called)) ⌝ }
+    ensures { λ r.
+        let o = endedAt (now (image .entry)) direction (now («to_server» .entry)) (now («to_client» .entry)) in
+        ⌜ (now («to_server» .exit) ≡ serverAfter o (now («to_server» .entry)))
+        × (now («to_client» .exit) ≡ clientAfter o (now («to_client» .entry))) ⌝ }
+{
+    if 2 <= direction {
+        return nothing_written(Answer::UnknownDirection);
+    }
+    if !is_image(image) {
+        return nothing_written(Answer::BadRecord);
+    }
+    if let Refusal::By(answer) = refusal_in(image, direction) {
+        return nothing_written(answer);
+    }
+    if direction == 0 {
+        return end_held(image, true, to_server);
+    }
+    end_held(image, false, to_client)
+}
+
+// The same where nothing refuses it. Only one buffer is written, that of the direction.
+fn end_held(image: &mut [u8], from_client: bool, out: &mut [u8]) -> Told
+    requires { ⌜ (isImage (now image) ≡ true) × Counted (controlIn (now image)) ⌝ }
+    ensures { λ r.
+        let d = sideIf «from_client» in
+        let o = heldEnd (fieldsIn (now (image .entry))) d (length (now (out .entry))) in
+        ⌜ (Tells r (o .called) × (now (image .exit) ≡ imageAfter (now (image .entry)) (o .called)))
+        × (now (out .exit) ≡ bufferAfter d o (now (out .entry))) ⌝ }
+{
+    let count = held_at(from_client);
+    let held = number_at(image, count) as usize;
+    if out.len() < held {
+        return nothing_written(Answer::NoRoom);
+    }
+    let at = line_at(from_client);
+    let n = put(out, 0, &image[at..at + held]);
+    put_end(image, from_client, n);
+    Told {
+        answer: Answer::Done,
+        taken: 0,
+        written: written_from(from_client, n),
+    }
+}
+
+// A direction has ended and holds nothing, and n octets more were written for it. No other octet changes.
+fn put_end(image: &mut [u8], from_client: bool, n: usize)
+    requires { ⌜ (isImage (now image) ≡ true) × (n ≤ 511) ⌝ }
+    ensures { λ _.
+        ⌜ now (image .exit) ≡ placed (now (image .entry)) 0 (imageOf (endedWith (fieldsIn (now (image .entry))) (sideIf «from_client») n)) ⌝ }
+{
+    let place = place_at(from_client);
+    let count = held_at(from_client);
+    let sum = written_at(from_client);
+    let before = number_at(image, sum);
+    image[place] = 3;
+    put_number(image, count, 0);
+    put_number(image, sum, std::num::wrapping_add_u32(before, n as u32));
+}
+
+// Where the place of a direction lies in an image.
+fn place_at(from_client: bool) -> usize
+    ensures { λ r. ⌜ r ≡ placeAt (sideIf «from_client») ⌝ }
+{
+    if from_client {
+        return 5;
+    }
+    6
+}
+
+// Where the number of its held octets lies.
+fn held_at(from_client: bool) -> usize
+    ensures { λ r. ⌜ r ≡ heldAt (sideIf «from_client») ⌝ }
+{
+    if from_client {
+        return 11;
+    }
+    15
+}
+
+// Where its line lies: the command's, or the reply's.
+fn line_at(from_client: bool) -> usize
+    ensures { λ r. ⌜ r ≡ lineAt (sideIf «from_client») ⌝ }
+{
+    if from_client {
+        return 71;
+    }
+    582
+}
+
+// Where what it has written is counted.
+fn written_at(from_client: bool) -> usize
+    ensures { λ r. ⌜ r ≡ writtenAt (sideIf «from_client») ⌝ }
+{
+    if from_client {
+        return 23;
+    }
+    31
+}
+
+// What was written for a direction: the client's octets go to the server.
+fn written_from(from_client: bool, n: usize) -> Written
+    ensures { λ r. ⌜ r ≡ writtenFrom (sideIf «from_client») n ⌝ }
+{
+    if from_client {
+        return Written {
+            server: n,
+            client: 0,
+        };
+    }
+    Written {
+        server: 0,
+        client: n,
+    }
+}
