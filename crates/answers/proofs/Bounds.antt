@@ -33,10 +33,10 @@ use Rattle.rules.specs.declared.PassiveReply.{PassiveReply}
 use Rattle.places.specs.declared.Place.{Place}
 use Rattle.places.specs.declared.Direction.{Direction}
 use Rattle.gives.specs.declared.Gives.{Gives}
-use Rattle.kinds.specs.declared.Owes.{Owes}
+use Rattle.queue.specs.declared.Owes.{Owes}
 use Rattle.upstream.specs.declared.ClientEffect.{ClientEffect}
 use Rattle.downstream.specs.declared.ServerEffect.{ServerEffect}
-use Rattle.kinds.specs.Kinds.{queueOf, headOf}
+use Rattle.queue.specs.Kinds.{queueOf, headOf}
 use Rattle.gives.specs.Text.{givesText}
 use Rattle.upstream.specs.Upstream.{commandEffect, judgedEffect, joinEffect, placeEffect, clientEffect}
 use Rattle.downstream.specs.Downstream.{passiveEffect, kindEffect, headEffect, lineGives, wholeLine, flowingLine, replyOctet, replyEffect, serverEffect}

@@ -16,10 +16,10 @@ use Rattle.rules.specs.declared.Switches.{Switches}
 use Rattle.rules.specs.declared.Answer.{Answer}
 use Rattle.places.specs.declared.Place.{Place}
 use Rattle.places.specs.declared.Direction.{Direction}
-use Rattle.kinds.specs.declared.Owes.{Owes}
+use Rattle.queue.specs.declared.Owes.{Owes}
 use Rattle.upstream.specs.declared.ClientEffect.{ClientEffect}
 use Rattle.downstream.specs.declared.ServerEffect.{ServerEffect}
-use Rattle.kinds.specs.Kinds.{headOf, pushed}
+use Rattle.queue.specs.Kinds.{headOf, pushed}
 use Rattle.upstream.specs.Upstream.{judgedEffect, joinEffect, placeEffect, clientEffect}
 use Rattle.downstream.specs.Downstream.{wholeLine, flowingLine, replyOctet, replyEffect, serverEffect}
 use Rattle.octets.proofs.Choices.{either, by-test}

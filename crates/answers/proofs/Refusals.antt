@@ -15,7 +15,7 @@ use Rattle.rules.specs.Lines.{judged}
 use Rattle.rules.specs.declared.Answer.{Answer}
 use Rattle.places.specs.declared.Place.{Place}
 use Rattle.places.specs.declared.Direction.{Direction}
-use Rattle.kinds.specs.Kinds.{isListed}
+use Rattle.queue.specs.Kinds.{isListed}
 use Rattle.octets.proofs.Ranges.{and-both}
 use Rattle.records.specs.declared.Session.{Session}
 use Rattle.records.specs.Sound.{isHolding, isEnded, soundDirection, sound, directionOf, refusalOf}

@@ -4,10 +4,10 @@
 ghost use mathlib.Core.Path.{_≡_};
 ghost use Prim.Native.Nat.{_≤_};
 ghost use lib.ListN.{length};
-use kinds::number_of;
 use libc::STDIN_FILENO;
 use libc::STDOUT_FILENO;
 use records::Session;
+use rules::number_of;
 use session::Called;
 use session::DirectionOffset;
 

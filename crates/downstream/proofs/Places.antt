@@ -8,7 +8,7 @@ use Rattle.rules.specs.Octets.{lf, choose}
 use Rattle.places.specs.declared.Place.{Place}
 use Rattle.places.specs.declared.Direction.{Direction}
 use Rattle.gives.specs.declared.Gives.{Gives}
-use Rattle.kinds.specs.declared.Owes.{Owes}
+use Rattle.queue.specs.declared.Owes.{Owes}
 use Rattle.places.specs.Places.{at}
 use Rattle.downstream.specs.Downstream.{serverEffectOf, flowingLine, replyEffect, serverEffect}
 

@@ -13,7 +13,7 @@ use Rattle.rules.specs.declared.PassiveReply.{PassiveReply}
 use Rattle.places.specs.declared.Place.{Place}
 use Rattle.places.specs.declared.Direction.{Direction}
 use Rattle.gives.specs.declared.Gives.{Gives}
-use Rattle.kinds.specs.declared.Owes.{Owes}
+use Rattle.queue.specs.declared.Owes.{Owes}
 use Rattle.downstream.specs.declared.ServerEffect.{ServerEffect}
 use Rattle.places.specs.Places.{at}
 

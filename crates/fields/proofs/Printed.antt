@@ -8,7 +8,7 @@ use Rattle.rules.specs.Address.{address-opened}
 use Rattle.rules.specs.Commands.{commands-opened}
 use Rattle.rules.specs.Replies.{replies-opened}
 use Rattle.rules.specs.Exchanges.{exchanges-opened}
-use Rattle.kinds.specs.Kinds.{kinds-opened}
+use Rattle.queue.specs.Kinds.{kinds-opened}
 use Rattle.gives.specs.Text.{gives-opened}
 use Rattle.upstream.specs.Upstream.{upstream-opened}
 use Rattle.downstream.specs.Downstream.{downstream-opened}

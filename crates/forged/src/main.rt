@@ -3,12 +3,12 @@
 //
 // A line is the answer's number, the octets taken, those written to the server and to the client, the first and the last octet of each buffer (7 where it
 // is untouched), and of the record: the replies owed, the octets held of either direction, and the octets taken from either side.
-use kinds::number_of;
 use libc::STDOUT_FILENO;
 use places::Direction;
 use places::Place;
 use records::Control;
 use records::Session;
+use rules::number_of;
 use session::Called;
 
 const SIZE: usize = 600;

@@ -43,7 +43,7 @@ use Rattle.rules.specs.declared.PassiveReply.{PassiveReply}
 use Rattle.replies.proofs.Flowing.{flowing as by-first-four}
 use Rattle.places.specs.declared.Place.{Place}
 use Rattle.gives.specs.declared.Gives.{Gives}
-use Rattle.kinds.specs.declared.Owes.{Owes}
+use Rattle.queue.specs.declared.Owes.{Owes}
 use Rattle.upstream.specs.declared.ClientEffect.{ClientEffect}
 use Rattle.downstream.specs.declared.ServerEffect.{ServerEffect}
 use Rattle.gives.specs.Text.{givesText}

@@ -12,8 +12,8 @@ use Rattle.rules.specs.Replies.{removed, owedAfter, withoutAnswers}
 use Rattle.rules.specs.declared.OwnAnswer.{OwnAnswer}
 use Rattle.rules.specs.declared.Kind.{Kind}
 use Rattle.rules.specs.declared.ReplyLine.{ReplyLine}
-use Rattle.kinds.specs.declared.Owes.{Owes}
-use Rattle.kinds.specs.Kinds.{
+use Rattle.queue.specs.declared.Owes.{Owes}
+use Rattle.queue.specs.Kinds.{
   pushed,
   stateCode,
   answerCode,

@@ -25,10 +25,10 @@ use Rattle.rules.specs.ToClient.{
 }
 use Rattle.rules.specs.declared.Switches.{Switches}
 use Rattle.places.specs.declared.Direction.{Direction}
-use Rattle.kinds.specs.declared.Owes.{Owes}
+use Rattle.queue.specs.declared.Owes.{Owes}
 use Rattle.upstream.specs.declared.ClientEffect.{ClientEffect}
 use Rattle.downstream.specs.declared.ServerEffect.{ServerEffect}
-use Rattle.kinds.specs.Kinds.{headOf}
+use Rattle.queue.specs.Kinds.{headOf}
 use Rattle.upstream.specs.Upstream.{clientEffect}
 use Rattle.downstream.specs.Downstream.{serverEffect}
 use Rattle.steps.specs.declared.Fixed.{Fixed}

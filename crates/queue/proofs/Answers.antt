@@ -9,7 +9,7 @@ use Rattle.rules.specs.Replies.{headAnswers, answerLine}
 use Rattle.rules.specs.declared.Kind.{Kind}
 use Rattle.rules.specs.declared.OwnAnswer.{OwnAnswer}
 use Rattle.own.proofs.Lengths.{answer-most}
-use Rattle.kinds.specs.Kinds.{kindOf, queueOf, answersAtHead}
+use Rattle.queue.specs.Kinds.{kindOf, queueOf, answersAtHead}
 use Rattle.queue.specs.declared.Next.{Next}
 use Rattle.queue.specs.Heads.{answerOf, answerFirst}
 

@@ -12,8 +12,8 @@ use Rattle.rules.specs.Answers.{mostOwed}
 use Rattle.rules.specs.declared.OwnAnswer.{OwnAnswer}
 use Rattle.rules.specs.declared.Kind.{Kind}
 use Rattle.octets.proofs.Runs.{every-drop, every-append}
-use Rattle.kinds.specs.declared.Owes.{Owes}
-use Rattle.kinds.specs.Kinds.{pushed, stateCode, answerCode, codeOf, isListed, kindOf, queueOf, shifted}
+use Rattle.queue.specs.declared.Owes.{Owes}
+use Rattle.queue.specs.Kinds.{pushed, stateCode, answerCode, codeOf, isListed, kindOf, queueOf, shifted}
 
 -- ---- every kind has a listed number
 

@@ -1,2 +1,3 @@
--- What comes first in a queue.
+-- The owed kinds as numbers of the record, and what comes first among them.
+pub mod Kinds
 pub mod Heads

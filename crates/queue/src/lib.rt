@@ -1,18 +1,74 @@
-// The queue of replies owed, as the record has it: its first kind, the own answers at its head, and a kind put behind the last one.
+// The queue of replies owed, as the record has it: kinds as numbers, the first kind, the own answers at its head, and a
+// kind put behind the last one.
 ghost use mathlib.Core.Path.{_≡_};
 ghost use Prim.Native.Nat.{_+_, _≤_};
 ghost use lib.ListN.{length, drop};
 ghost use Rattle.rules.specs.Replies.{headAnswers};
 ghost use Rattle.output.specs.Buffer.{placed, placeAfter};
-ghost use Rattle.kinds.specs.Kinds.{queueOf, headOf, answersAtHead, pushed};
+ghost use Rattle.queue.specs.Kinds.{answerCode, codeOf, stateKind, kindOf, queueOf, headOf, answersAtHead, pushed};
 ghost use Rattle.queue.specs.Heads.{answerFirst};
-use kinds::Owes;
-use kinds::code_of;
-use kinds::kind_of;
 use own::answer_length;
 use own::put_answer;
 use rules::Kind;
 use rules::OwnAnswer;
+use rules::Switches;
+
+// A kind owed, or none.
+pub enum Owes {
+    Nothing,
+    One(Kind),
+}
+
+// The number of a kind in the record.
+pub fn code_of(kind: Kind) -> u8
+    ensures { λ r. ⌜ r ≡ codeOf kind ⌝ }
+{
+    match kind {
+        Kind::Plain => 0,
+        Kind::TranslatedEpsv => 1,
+        Kind::Own(answer) => answer_code(answer),
+        Kind::Auth => 8,
+    }
+}
+
+fn answer_code(answer: OwnAnswer) -> u8
+    ensures { λ r. ⌜ r ≡ answerCode answer ⌝ }
+{
+    match answer {
+        OwnAnswer::ProtocolNotSupported => 2,
+        OwnAnswer::ParameterNotImplemented => 3,
+        OwnAnswer::State(switches) => {
+            if switches.epsv {
+                if switches.eprt { 7 } else { 5 }
+            } else {
+                if switches.eprt { 6 } else { 4 }
+            }
+        }
+    }
+}
+
+// The kind of a number; one that is not listed counts as plain.
+pub fn kind_of(code: u8) -> Kind
+    ensures { λ r. ⌜ r ≡ kindOf code ⌝ }
+{
+    match code {
+        1 => Kind::TranslatedEpsv,
+        2 => Kind::Own(OwnAnswer::ProtocolNotSupported),
+        3 => Kind::Own(OwnAnswer::ParameterNotImplemented),
+        4 => state_kind(false, false),
+        5 => state_kind(true, false),
+        6 => state_kind(false, true),
+        7 => state_kind(true, true),
+        8 => Kind::Auth,
+        _ => Kind::Plain,
+    }
+}
+
+fn state_kind(epsv: bool, eprt: bool) -> Kind
+    ensures { λ r. ⌜ r ≡ stateKind epsv eprt ⌝ }
+{
+    Kind::Own(OwnAnswer::State(Switches { epsv, eprt }))
+}
 
 // How far the own answers at the head of a queue reach, and how many octets they have in all.
 pub struct AnswersDue {

@@ -7,7 +7,7 @@ use lib.ListN.{take}
 use Rattle.rules.specs.Octets.{every}
 use Rattle.rules.specs.Answers.{Side, client, server, sideOf, soundHeld, soundRecord, refusal}
 use Rattle.rules.specs.declared.Answer.{Answer}
-use Rattle.kinds.specs.Kinds.{isListed}
+use Rattle.queue.specs.Kinds.{isListed}
 use Rattle.places.specs.declared.Place.{Place}
 use Rattle.places.specs.declared.Direction.{Direction}
 use Rattle.records.specs.declared.Control.{Control}

@@ -4,7 +4,7 @@ ghost use Prim.Native.Nat.{_≤_};
 ghost use lib.ListN.{take};
 ghost use Rattle.rules.specs.Octets.{every};
 ghost use Rattle.rules.specs.Answers.{sideOf};
-ghost use Rattle.kinds.specs.Kinds.{isListed};
+ghost use Rattle.queue.specs.Kinds.{isListed};
 ghost use Rattle.records.specs.Sound.{soundDirection, soundOf, isEnded, directionOf, refusalOn, refusalOf, refusalBy};
 use places::Direction;
 use places::Place;

@@ -1,4 +1,6 @@
 // The terms of the rules as types: the definitions in specs/ go by cases on them, and functions take and return them.
+ghost use mathlib.Core.Path.{_≡_};
+ghost use Rattle.rules.specs.Answers.{answerNumber};
 
 // What a call answers. `answerNumber` gives the number of each case.
 pub enum Answer {
@@ -91,4 +93,19 @@ pub enum ReplyLine {
 pub enum PassiveReply {
     Port(u16),
     Unreadable,
+}
+
+// The number of an answer, for hosts and reports, which tell numbers.
+pub fn number_of(answer: Answer) -> u8
+    ensures { λ r. ⌜ r ≡ answerNumber answer ⌝ }
+{
+    match answer {
+        Answer::Done => 0,
+        Answer::QueueFull => 1,
+        Answer::NoRoom => 2,
+        Answer::UnknownDirection => 3,
+        Answer::BadRecord => 4,
+        Answer::BadSetup => 5,
+        Answer::DirectionEnded => 6,
+    }
 }

@@ -13,7 +13,7 @@ use Rattle.rules.specs.Answers.{client, server}
 use Rattle.places.specs.declared.Place.{Place}
 use Rattle.places.specs.Places.{at}
 use Rattle.gives.specs.Text.{givesText}
-use Rattle.kinds.specs.Kinds.{codeOf, pushed}
+use Rattle.queue.specs.Kinds.{codeOf, pushed}
 use Rattle.commands.specs.Plain.{isPlain}
 use Rattle.commands.proofs.Words.{plain-passes}
 use Rattle.upstream.specs.Upstream.{commandEffect, judgedEffect, placeEffect, clientEffect}

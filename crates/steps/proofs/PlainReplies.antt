@@ -24,8 +24,8 @@ use Rattle.places.specs.declared.Place.{Place}
 use Rattle.places.specs.Places.{at}
 use Rattle.gives.specs.declared.Gives.{Gives}
 use Rattle.gives.specs.Text.{givesText}
-use Rattle.kinds.specs.declared.Owes.{Owes}
-use Rattle.kinds.specs.Kinds.{kindOf, headOf, answersAtHead, shifted}
+use Rattle.queue.specs.declared.Owes.{Owes}
+use Rattle.queue.specs.Kinds.{kindOf, headOf, answersAtHead, shifted}
 use Rattle.queue.proofs.Listed.{length-shifted}
 use Rattle.downstream.specs.Downstream.{serverEffectOf, kindRemoved, headRemoved, lineRemoves, kindEffect, headEffect, lineGives, wholeLine, replyEffect, serverEffect}
 use Rattle.records.specs.declared.Control.{Control}

@@ -13,7 +13,7 @@ use Rattle.octets.proofs.Choices.{by-test, choose-true, choose-false}
 use Rattle.places.specs.declared.Place.{Place}
 use Rattle.places.specs.declared.Direction.{Direction}
 use Rattle.places.specs.Places.{at}
-use Rattle.kinds.specs.Kinds.{queueOf, answersAtHead, shifted}
+use Rattle.queue.specs.Kinds.{queueOf, answersAtHead, shifted}
 use Rattle.queue.proofs.Listed.{shifted-queue}
 use Rattle.steps.specs.declared.settling.Plan.{Plan}
 use Rattle.steps.specs.Core.{Planned}

@@ -15,8 +15,8 @@ use Rattle.places.specs.declared.Direction.{Direction}
 use Rattle.places.specs.Places.{at}
 use Rattle.gives.specs.declared.Gives.{Gives}
 use Rattle.gives.specs.Text.{givesText}
-use Rattle.kinds.specs.declared.Owes.{Owes}
-use Rattle.kinds.specs.Kinds.{pushed, headOf}
+use Rattle.queue.specs.declared.Owes.{Owes}
+use Rattle.queue.specs.Kinds.{pushed, headOf}
 use Rattle.upstream.specs.Upstream.{clientEffectOf, joinEffect, placeEffect, clientEffect}
 use Rattle.downstream.specs.Downstream.{serverEffectOf, replyOctet, replyEffect, serverEffect}
 use Rattle.records.specs.Sound.{isHolding}

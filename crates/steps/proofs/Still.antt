@@ -10,7 +10,7 @@ use borrow.Author.Tests.{leb-true, leb-false, ltb-true, ne-eqb}
 use Rattle.rules.specs.Octets.{choose}
 use Rattle.rules.specs.Replies.{authAtHead}
 use Rattle.rules.specs.declared.Kind.{Kind}
-use Rattle.kinds.specs.Kinds.{kindOf, queueOf, answersAtHead}
+use Rattle.queue.specs.Kinds.{kindOf, queueOf, answersAtHead}
 use Rattle.queue.proofs.Answers.{none-owed, none-kept, one-owed}
 use Rattle.steps.specs.PlainRuns.{isStill, isPlainFirst, keepsStill}
 

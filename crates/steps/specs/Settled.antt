@@ -4,7 +4,7 @@ use mathlib.Core.Bool.{true, false}
 use Prim.Native.Nat.{ℕ}
 use Rattle.rules.specs.Replies.{authAtHead}
 use Rattle.places.specs.declared.Place.{Place}
-use Rattle.kinds.specs.Kinds.{queueOf, answersAtHead}
+use Rattle.queue.specs.Kinds.{queueOf, answersAtHead}
 use Rattle.steps.specs.Steps.{State, blocked}
 
 -- the server's octets pass at once, or it has ended, and none is held

@@ -11,7 +11,7 @@ use Rattle.rules.specs.declared.Kind.{Kind}
 use Rattle.places.specs.declared.Place.{Place}
 use Rattle.places.specs.declared.Direction.{Direction}
 use Rattle.gives.specs.declared.Gives.{Gives}
-use Rattle.kinds.specs.declared.Owes.{Owes}
+use Rattle.queue.specs.declared.Owes.{Owes}
 use Rattle.places.specs.Places.{at}
 use Rattle.upstream.specs.Upstream.{clientEffectOf, placeEffect, clientEffect}
 

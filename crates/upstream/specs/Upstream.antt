@@ -14,7 +14,7 @@ use Rattle.rules.specs.declared.Command.{Command}
 use Rattle.places.specs.declared.Place.{Place}
 use Rattle.places.specs.declared.Direction.{Direction}
 use Rattle.gives.specs.declared.Gives.{Gives}
-use Rattle.kinds.specs.declared.Owes.{Owes}
+use Rattle.queue.specs.declared.Owes.{Owes}
 use Rattle.upstream.specs.declared.ClientEffect.{ClientEffect}
 use Rattle.places.specs.Places.{at}
 

@@ -3,7 +3,7 @@ use mathlib.Core.Path.{_≡_, sym, ap, _∙_}
 use native.Mathlib.Omega.{arith}
 use borrow.Author.Needs.{needs}
 use lib.ListN.{length, drop}
-use Rattle.kinds.specs.Kinds.{queueOf}
+use Rattle.queue.specs.Kinds.{queueOf}
 use Rattle.queue.specs.Heads.{answerOf, answerFirst}
 use Rattle.queue.proofs.Answers.{none-owed, none-kept, at-first, at-none}
 use Rattle.queue.proofs.answer_at.Statement.{statement}

@@ -6,7 +6,7 @@ use native.Mathlib.Omega.{arith}
 use borrow.Author.Needs.{needs}
 use lib.ListN.{length, drop}
 use Rattle.rules.specs.Replies.{headAnswers}
-use Rattle.kinds.specs.Kinds.{queueOf, answersAtHead}
+use Rattle.queue.specs.Kinds.{queueOf, answersAtHead}
 use Rattle.queue.proofs.Answers.{stops, goes-on, none-kept, none-at-end}
 use Rattle.queue.proofs.due.Statement.{statement}
 use Rattle.queue.proofs.due.Tie as tie

@@ -7,8 +7,8 @@ use borrow.Author.Tests.{eq-eqb, ne-eqb}
 use lib.ListN.{getD}
 use Rattle.rules.specs.Octets.{choose}
 use Rattle.rules.specs.declared.Kind.{Kind}
-use Rattle.kinds.specs.declared.Owes.{Owes}
-use Rattle.kinds.specs.Kinds.{kindOf, headOf}
+use Rattle.queue.specs.declared.Owes.{Owes}
+use Rattle.queue.specs.Kinds.{kindOf, headOf}
 use Rattle.queue.proofs.first_owed.Statement.{statement}
 use Rattle.queue.proofs.first_owed.Tie as tie
 

@@ -7,8 +7,8 @@ use borrow.Author.Needs.{needs}
 use lib.ListN.{length, set}
 use lib.Seq.{set-out}
 use Rattle.rules.specs.declared.Kind.{Kind}
-use Rattle.kinds.specs.declared.Owes.{Owes}
-use Rattle.kinds.specs.Kinds.{codeOf, pushed}
+use Rattle.queue.specs.declared.Owes.{Owes}
+use Rattle.queue.specs.Kinds.{codeOf, pushed}
 use Rattle.queue.proofs.push.Statement.{statement}
 use Rattle.queue.proofs.push.Tie as tie
 

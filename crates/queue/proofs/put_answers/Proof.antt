@@ -6,7 +6,7 @@ use borrow.Author.Needs.{needs}
 use lib.ListN.{length, drop}
 use Rattle.rules.specs.Replies.{headAnswers}
 use Rattle.output.proofs.Placing.{no-room}
-use Rattle.kinds.specs.Kinds.{queueOf}
+use Rattle.queue.specs.Kinds.{queueOf}
 use Rattle.queue.proofs.Answers.{stops, goes-on, none-kept, none-at-end}
 use Rattle.queue.proofs.Placing.{Remaining, at-start, next-part, at-end}
 use Rattle.queue.proofs.put_answers.Statement.{statement}

@@ -7,7 +7,7 @@ use lib.Seq.{length-take-le, getD-take}
 use borrow.Author.Needs.{needs}
 use borrow.Author.Tests.{le-leb, lt-leb}
 use Rattle.rules.specs.Octets.{every}
-use Rattle.kinds.specs.Kinds.{isListed}
+use Rattle.queue.specs.Kinds.{isListed}
 use Rattle.octets.proofs.Runs.{every-yes, every-not, every-end}
 use Rattle.records.proofs.kinds_listed.Statement.{statement}
 use Rattle.records.proofs.kinds_listed.Tie as tie

@@ -1,8 +1,8 @@
 -- By the cases of the answer and of the switches.
 use borrow.Author.Needs.{needs}
-use Rattle.kinds.specs.Kinds.{answerCode, stateCode}
-use Rattle.kinds.proofs.answer_code.Statement.{statement}
-use Rattle.kinds.proofs.answer_code.Tie as tie
+use Rattle.queue.specs.Kinds.{answerCode, stateCode}
+use Rattle.queue.proofs.answer_code.Statement.{statement}
+use Rattle.queue.proofs.answer_code.Tie as tie
 
 enum-told : tie.Need-enum-told
 enum-told c = search needs

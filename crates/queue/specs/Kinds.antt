@@ -7,7 +7,7 @@ use lib.ListN.{take, drop, set, getD}
 use Rattle.rules.specs.Octets.{choose}
 use Rattle.rules.specs.declared.OwnAnswer.{OwnAnswer}
 use Rattle.rules.specs.declared.Kind.{Kind}
-use Rattle.kinds.specs.declared.Owes.{Owes}
+use Rattle.queue.specs.declared.Owes.{Owes}
 
 unfoldable pub stateCode : Bool → Bool → ℕ
 stateCode false false = 4

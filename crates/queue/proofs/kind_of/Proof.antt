@@ -3,9 +3,9 @@ use mathlib.Core.Path.{ap, sym, _∙_}
 use borrow.Author.Needs.{needs}
 use borrow.Author.Tests.{ne-eqb}
 use Rattle.rules.specs.Octets.{choose}
-use Rattle.kinds.specs.Kinds.{kindOf}
-use Rattle.kinds.proofs.kind_of.Statement.{statement}
-use Rattle.kinds.proofs.kind_of.Tie as tie
+use Rattle.queue.specs.Kinds.{kindOf}
+use Rattle.queue.proofs.kind_of.Statement.{statement}
+use Rattle.queue.proofs.kind_of.Tie as tie
 
 state-kind-requires : tie.Need-state-kind-requires
 state-kind-requires c κs = search needs

@@ -1,9 +1,9 @@
 -- By the cases of the kind.
 use mathlib.Core.Path.{ap, sym, _∙_}
 use borrow.Author.Needs.{needs}
-use Rattle.kinds.specs.Kinds.{codeOf}
-use Rattle.kinds.proofs.code_of.Statement.{statement}
-use Rattle.kinds.proofs.code_of.Tie as tie
+use Rattle.queue.specs.Kinds.{codeOf}
+use Rattle.queue.proofs.code_of.Statement.{statement}
+use Rattle.queue.proofs.code_of.Tie as tie
 
 enum-told : tie.Need-enum-told
 enum-told c = search needs

@@ -1,8 +1,8 @@
--- `kinds::number_of`: each case has its number.
+-- `rules::number_of`: each case has its number.
 use borrow.Author.Needs.{needs}
 use Rattle.rules.specs.Answers.{answerNumber}
-use Rattle.kinds.proofs.number_of.Statement.{statement}
-use Rattle.kinds.proofs.number_of.Tie as tie
+use Rattle.rules.proofs.number_of.Statement.{statement}
+use Rattle.rules.proofs.number_of.Tie as tie
 
 enum-told : tie.Need-enum-told
 enum-told c = search needs

@@ -1,2 +1,0 @@
--- The owed kinds as numbers of the record.
-pub mod Kinds
