@@ -44,9 +44,10 @@ use Rattle.octets.proofs.Choices.{either, by-test}
 use Rattle.queue.proofs.Answers.{length-queue}
 use Rattle.steps.specs.declared.Fixed.{Fixed}
 use Rattle.records.specs.declared.Session.{Session}
-use Rattle.steps.specs.Steps.{State, Step, owedThen, owedFrom, blocked, answersText, isAuthNext, settledText, clientState, clientEffectIn, clientStep, serverState, serverEffectIn, serverStep, octetStep}
-use Rattle.records.specs.Sound.{sound, refusalOf}
-use Rattle.steps.specs.Takes.{isPassing, unlessStopped, stopOf, takes}
+use Rattle.steps.specs.Steps.{State, Step, owedThen, owedFrom, answersText, isAuthNext, settledText, clientState, clientEffectIn, clientStep, serverState, serverEffectIn, serverStep, octetStep}
+use Rattle.records.specs.Sound.{sound, refusalOf, blocked}
+use Rattle.places.specs.Places.{isPassing}
+use Rattle.steps.specs.Takes.{unlessStopped, stopOf, takes}
 use Rattle.session.specs.Calls.{stateOf, fixedOf, unlessRefused, outcome, arrived}
 use Rattle.session.specs.Bounds.{WritesAtMost, OctetBound, Progress}
 use Rattle.steps.proofs.Turns.{place-owed}

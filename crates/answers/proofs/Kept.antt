@@ -26,9 +26,9 @@ use Rattle.octets.proofs.Choices.{either, by-test}
 use Rattle.queue.proofs.Listed.{Listed, listed-push, listed-leave}
 use Rattle.steps.specs.declared.Fixed.{Fixed}
 use Rattle.records.specs.declared.Session.{Session}
-use Rattle.steps.specs.Steps.{State, owedThen, leaving, passesFromNow, isAuthNext, settledState, clientState, clientEffectIn, clientStep, serverState, serverEffectIn, serverStep, octetStep}
-use Rattle.records.specs.Sound.{isHolding, refusalOf}
-use Rattle.steps.specs.Takes.{isPassing}
+use Rattle.steps.specs.Steps.{State, owedThen, leaving, isAuthNext, settledState, clientState, clientEffectIn, clientStep, serverState, serverEffectIn, serverStep, octetStep}
+use Rattle.places.specs.Places.{isHolding, isPassing, passesFromNow}
+use Rattle.records.specs.Sound.{refusalOf}
 use Rattle.steps.specs.Settled.{Settled}
 use Rattle.session.specs.Calls.{stateOf, fixedOf, sessionAfter, Outcome, refused, unlessRefused, outcome, arrived, endStep, endOutcome, ended, freshSession}
 use Rattle.session.specs.Bounds.{Shaped, WritesAtMost}

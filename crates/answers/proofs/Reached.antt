@@ -9,6 +9,8 @@ use Rattle.rules.specs.Commands.{commands-opened}
 use Rattle.rules.specs.Replies.{replies-opened}
 use Rattle.queue.specs.Kinds.{kinds-opened}
 use Rattle.gives.specs.Text.{gives-opened}
+use Rattle.places.specs.Places.{places-opened}
+use Rattle.records.specs.Sound.{sound-opened}
 use Rattle.upstream.specs.Upstream.{upstream-opened}
 use Rattle.downstream.specs.Downstream.{downstream-opened}
 use Rattle.steps.specs.Steps.{steps-opened}
@@ -26,9 +28,9 @@ unfolding answers-opened lines-opened
 client-most-is = refl
 
 pub server-reached : Writes longLine 512 0
-unfolding octets-opened answers-opened setup-opened lines-opened address-opened commands-opened replies-opened kinds-opened gives-opened upstream-opened downstream-opened steps-opened calls-opened longLine
+unfolding octets-opened answers-opened setup-opened lines-opened address-opened commands-opened replies-opened kinds-opened gives-opened places-opened sound-opened upstream-opened downstream-opened steps-opened calls-opened longLine
 server-reached = record { answer = refl; taken = refl; toServer = refl; toClient = refl }
 
 pub client-reached : Writes sixteenAnswers 0 1280
-unfolding octets-opened answers-opened setup-opened lines-opened address-opened commands-opened replies-opened kinds-opened gives-opened upstream-opened downstream-opened steps-opened calls-opened sixteenAnswers
+unfolding octets-opened answers-opened setup-opened lines-opened address-opened commands-opened replies-opened kinds-opened gives-opened places-opened sound-opened upstream-opened downstream-opened steps-opened calls-opened sixteenAnswers
 client-reached = record { answer = refl; taken = refl; toServer = refl; toClient = refl }

@@ -18,7 +18,8 @@ use Rattle.places.specs.declared.Direction.{Direction}
 use Rattle.queue.specs.Kinds.{isListed}
 use Rattle.octets.proofs.Ranges.{and-both}
 use Rattle.records.specs.declared.Session.{Session}
-use Rattle.records.specs.Sound.{isHolding, isEnded, soundDirection, sound, directionOf, refusalOf}
+use Rattle.places.specs.Places.{isHolding, isEnded}
+use Rattle.records.specs.Sound.{soundDirection, sound, directionOf, refusalOf}
 use Rattle.records.proofs.Refusals.{refusal-cases, place-holding}
 use Rattle.answers.specs.Table.{Unknown, Known, SoundDirection, Sound, HasEnded}
 

@@ -15,7 +15,8 @@ use Rattle.rules.specs.declared.Answer.{Answer}
 use Rattle.places.specs.declared.Place.{Place}
 use Rattle.steps.specs.declared.Fixed.{Fixed}
 use Rattle.steps.specs.Steps.{State, Step, octetStep}
-use Rattle.steps.specs.Takes.{isPassing, Took, tookNothing, andThen, stopOf, takes}
+use Rattle.places.specs.Places.{isPassing}
+use Rattle.steps.specs.Takes.{Took, tookNothing, andThen, stopOf, takes}
 use Rattle.session.specs.Calls.{stateOf, fixedOf}
 use Rattle.steps.proofs.Stops.{fits-room, stop-cases, unless-stopped}
 use Rattle.answers.specs.Table.{Call, octetSteps, before, next, Full, Exceeds}

@@ -49,7 +49,8 @@ use Rattle.places.specs.declared.Place.{Place}
 use Rattle.records.specs.declared.Session.{Session}
 use Rattle.steps.specs.declared.Fixed.{Fixed}
 use Rattle.session.specs.Calls.{Outcome, freshSession, offset}
-use Rattle.records.specs.Sound.{sound, soundDirection, isHolding}
+use Rattle.places.specs.Places.{isHolding}
+use Rattle.records.specs.Sound.{sound, soundDirection}
 use Rattle.history.specs.ByOctets.{byOctets}
 use Rattle.history.specs.Gateway.{Fresh, outcomeOf, Promise, gateway}
 use Rattle.history.proofs.ByOctets.{by-octets}

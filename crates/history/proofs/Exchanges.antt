@@ -11,6 +11,8 @@ use Rattle.rules.specs.Replies.{replies-opened}
 use Rattle.rules.specs.Exchanges.{exchanges, exchanges-opened}
 use Rattle.queue.specs.Kinds.{kinds-opened}
 use Rattle.gives.specs.Text.{gives-opened}
+use Rattle.places.specs.Places.{places-opened}
+use Rattle.records.specs.Sound.{sound-opened}
 use Rattle.upstream.specs.Upstream.{upstream-opened}
 use Rattle.downstream.specs.Downstream.{downstream-opened}
 use Rattle.steps.specs.Steps.{steps-opened}
@@ -18,5 +20,5 @@ use Rattle.session.specs.Calls.{calls-opened}
 use Rattle.history.specs.Exchanges.{calledBoth, printedBoth, calls-exchanges-opened}
 
 pub twelve-exchanges-through-calls : map calledBoth exchanges ≡ map printedBoth exchanges
-unfolding octets-opened setup-opened answers-opened lines-opened address-opened commands-opened replies-opened exchanges-opened kinds-opened gives-opened upstream-opened downstream-opened steps-opened calls-opened calls-exchanges-opened
+unfolding octets-opened setup-opened answers-opened lines-opened address-opened commands-opened replies-opened exchanges-opened kinds-opened gives-opened places-opened sound-opened upstream-opened downstream-opened steps-opened calls-opened calls-exchanges-opened
 twelve-exchanges-through-calls = refl

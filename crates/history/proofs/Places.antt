@@ -47,11 +47,11 @@ use Rattle.queue.specs.declared.Owes.{Owes}
 use Rattle.upstream.specs.declared.ClientEffect.{ClientEffect}
 use Rattle.downstream.specs.declared.ServerEffect.{ServerEffect}
 use Rattle.gives.specs.Text.{givesText}
-use Rattle.places.specs.Places.{at}
+use Rattle.places.specs.Places.{at, flowsOrEnded, passesFromNow}
 use Rattle.upstream.specs.Upstream.{commandEffect, judgedEffect, joinEffect, placeEffect, clientEffectOf}
 use Rattle.downstream.specs.Downstream.{passiveEffect, kindEffect, headEffect, lineGives, wholeLine, flowingLine, replyOctet, replyEffect}
 use Rattle.steps.specs.declared.Fixed.{Fixed}
-use Rattle.steps.specs.Steps.{stored, flowsOrEnded, passesFromNow}
+use Rattle.steps.specs.Steps.{stored}
 use Rattle.history.specs.ByOctets.{lineEndGives, clientGives}
 use Rattle.history.proofs.ByOctets.{
   six,

@@ -18,7 +18,8 @@ use Rattle.rules.specs.ToClient.{
 }
 use Rattle.rules.specs.declared.Kind.{Kind}
 use Rattle.queue.specs.Kinds.{queueOf, answersAtHead, shifted}
-use Rattle.steps.specs.Steps.{State, blocked, owedFrom, leaving, answersText, isAuthNext, settledState, settledText}
+use Rattle.records.specs.Sound.{blocked}
+use Rattle.steps.specs.Steps.{State, owedFrom, leaving, answersText, isAuthNext, settledState, settledText}
 use Rattle.history.proofs.Queue.{Queue, queue-leave, answers-drop}
 use Rattle.history.proofs.Places.{Stands, FirstFour, Full, held-octets, flows-or-ended, passes-on}
 

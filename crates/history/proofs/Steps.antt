@@ -33,7 +33,8 @@ use Rattle.upstream.specs.Upstream.{clientEffect}
 use Rattle.downstream.specs.Downstream.{serverEffect}
 use Rattle.steps.specs.declared.Fixed.{Fixed}
 use Rattle.steps.specs.Steps.{State, Step, owedThen, settledState, clientState, clientEffectIn, clientStep, serverState, serverEffectIn, serverStep, octetStep}
-use Rattle.steps.specs.Takes.{isPassing, Took, stopOf, takes}
+use Rattle.places.specs.Places.{isPassing}
+use Rattle.steps.specs.Takes.{Took, stopOf, takes}
 use Rattle.session.specs.Calls.{endStep}
 use Rattle.steps.proofs.Stops.{stop-none, unless-stopped}
 use Rattle.steps.proofs.Turns.{place-owed}

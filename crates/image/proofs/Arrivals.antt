@@ -18,14 +18,15 @@ use Rattle.records.specs.declared.Control.{Control}
 use Rattle.records.specs.declared.Counts.{Counts}
 use Rattle.records.specs.declared.Session.{Session}
 use Rattle.records.specs.declared.Refusal.{Refusal}
-use Rattle.records.specs.Sound.{sound, refusalOf, refusalBy}
+use Rattle.records.specs.Sound.{sound, refusalOf, refusalBy, Counted}
 use Rattle.records.proofs.Refusals.{refusal-cases, by-answer, countable}
 use Rattle.steps.specs.declared.Fixed.{Fixed}
-use Rattle.steps.specs.declared.Taken.{Taken}
+use Rattle.arrivals.specs.declared.Taken.{Taken}
 use Rattle.steps.specs.Steps.{State, octetStep}
-use Rattle.steps.specs.Takes.{Took, takes, unlessStopped, stopOf, tookIn, commandIn, replyIn, stateFrom, addressesLent, fixedLent, kindsLent, linesLent, stateLent, coreLent, Given, Counted}
+use Rattle.steps.specs.Takes.{Took, takes, unlessStopped, stopOf, tookIn, commandIn, replyIn, stateFrom, addressesLent, fixedLent, kindsLent, linesLent, stateLent, coreLent, Given}
 use Rattle.steps.proofs.Lent.{from-front, fixed-same}
-use Rattle.steps.proofs.Takes.{took-all, counts-holdable}
+use Rattle.arrivals.proofs.Going.{took-all}
+use Rattle.records.proofs.Limits.{counts-holdable}
 use Rattle.session.specs.declared.Called.{Called}
 use Rattle.session.specs.Calls.{Outcome, counted, takenFor, fixedOf, stateOf, sessionAfter, deadSession, refused, unlessRefused, arrived, ended}
 use Rattle.session.proofs.Outcomes.{Promised, arrives}

@@ -15,10 +15,9 @@ use Rattle.output.specs.Buffer.{placed, placeAfter}
 use Rattle.output.proofs.Front.{put-size, put-text}
 use Rattle.records.specs.declared.Control.{Control}
 use Rattle.records.specs.declared.Session.{Session}
-use Rattle.records.specs.Sound.{directionOf, refusalOf}
+use Rattle.records.specs.Sound.{directionOf, refusalOf, Counted}
 use Rattle.records.proofs.Refusals.{countable}
 use Rattle.steps.specs.declared.Written.{Written}
-use Rattle.steps.specs.Takes.{Counted}
 use Rattle.steps.specs.Steps.{Step}
 use Rattle.session.specs.declared.Called.{Called}
 use Rattle.session.specs.Calls.{Outcome, stateOf, sessionAfter, refused, outcome, endStep, endOutcome, ended}

@@ -9,11 +9,11 @@ use crate::counts_at;
 use crate::is_image;
 use crate::put_back;
 use crate::refusal_in;
+use arrivals::take;
 use records::Refusal;
 use rules::Answer;
 use session::counts_then;
 use steps::Written;
-use steps::take;
 
 // What a call on an image tells: its answer, how many octets it took, and how many it wrote into each buffer.
 pub struct Told {

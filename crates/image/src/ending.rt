@@ -3,7 +3,7 @@ ghost use mathlib.Core.Path.{_≡_};
 ghost use mathlib.Core.Bool.{true};
 ghost use Prim.Native.Nat.{_≤_};
 ghost use Rattle.output.specs.Buffer.{placed};
-ghost use Rattle.steps.specs.Takes.{sideIf, Counted};
+ghost use Rattle.records.specs.Sound.{sideIf, Counted};
 ghost use lib.ListN.{length};
 ghost use Rattle.image.specs.Image.{imageOf, controlIn, fieldsIn, isImage};
 ghost use Rattle.image.specs.Lent.{endedAt, heldEnd, endedWith, placeAt, heldAt, lineAt, writtenAt, writtenFrom, imageAfter, serverAfter, clientAfter, bufferAfter, Tells};

@@ -1,7 +1,56 @@
 -- Where a direction stands.
+use mathlib.Core.Bool.{Bool, true, false}
 use Prim.Native.Nat.{ℕ}
 use Rattle.places.specs.declared.Place.{Place}
 use Rattle.places.specs.declared.Direction.{Direction}
 
+-- a direction's place, and how many octets it holds
 abbrev pub at : Place → ℕ → Direction
 at p n = record { place = p; held = n }
+
+-- its line's octets are held
+abbrev pub isHolding : Place → Bool
+isHolding Place.Holding = true
+isHolding Place.Flowing = false
+isHolding Place.Passing = false
+isHolding Place.Ended = false
+
+-- its long line flows
+abbrev pub isFlowing : Place → Bool
+isFlowing Place.Holding = false
+isFlowing Place.Flowing = true
+isFlowing Place.Passing = false
+isFlowing Place.Ended = false
+
+-- "AUTH yet": its octets pass at once
+abbrev pub isPassing : Place → Bool
+isPassing Place.Holding = false
+isPassing Place.Flowing = false
+isPassing Place.Passing = true
+isPassing Place.Ended = false
+
+-- "that direction has ended"
+abbrev pub isEnded : Place → Bool
+isEnded Place.Holding = false
+isEnded Place.Flowing = false
+isEnded Place.Passing = false
+isEnded Place.Ended = true
+
+-- "a server line is flowing, or the server direction has ended"
+unfoldable pub flowsOrEnded : Place → Bool
+flowsOrEnded Place.Holding = false
+flowsOrEnded Place.Flowing = true
+flowsOrEnded Place.Passing = false
+flowsOrEnded Place.Ended = true
+
+-- "all later ones pass at once", unless the direction has ended
+abbrev pub passesFromNow : Direction → Place → Direction
+passesFromNow d Place.Holding = at Place.Passing 0
+passesFromNow d Place.Flowing = at Place.Passing 0
+passesFromNow d Place.Passing = at Place.Passing 0
+passesFromNow d Place.Ended = d
+
+-- this page's definitions, for a proof that computes with them
+unfoldable pub places-opened : Unit {0}
+unfolding flowsOrEnded
+places-opened = tt

@@ -1,10 +1,11 @@
-// Where a direction stands, and how much of its line may be held.
+// Where a direction stands, what that says of its octets, and how much of its line may be held.
 ghost use mathlib.Core.Path.{_≡_};
 ghost use mathlib.Core.Bool.{true};
 ghost use Prim.Native.Nat.{_+_, _<_};
 ghost use lib.Dec.{ltb};
 ghost use lib.ListN.{take};
 ghost use Rattle.rules.specs.Lines.{judged};
+ghost use Rattle.places.specs.Places.{at, isHolding, isFlowing, isPassing, isEnded, passesFromNow};
 
 // A line of up to this many octets, LF included, is judged whole.
 pub const JUDGED: usize = 512;
@@ -41,4 +42,78 @@ pub fn is_held(held: usize) -> bool
     ensures fits { λ r. ⌜ (r ≡ true → held + 1 < 65536) ⌝ }
 {
     held < JUDGED - 1
+}
+
+// Its line's octets are held.
+pub fn is_holding(direction: Direction) -> bool
+    ensures { λ r. ⌜ r ≡ isHolding (direction .place) ⌝ }
+{
+    let place = direction.place;
+    match place {
+        Place::Holding => true,
+        Place::Flowing => false,
+        Place::Passing => false,
+        Place::Ended => false,
+    }
+}
+
+// Its long line flows.
+pub fn is_flowing(direction: Direction) -> bool
+    ensures { λ r. ⌜ r ≡ isFlowing (direction .place) ⌝ }
+{
+    let place = direction.place;
+    match place {
+        Place::Flowing => true,
+        Place::Holding => false,
+        Place::Passing => false,
+        Place::Ended => false,
+    }
+}
+
+// Its octets pass at once.
+pub fn is_passing(direction: Direction) -> bool
+    ensures { λ r. ⌜ r ≡ isPassing (direction .place) ⌝ }
+{
+    let place = direction.place;
+    match place {
+        Place::Passing => true,
+        Place::Holding => false,
+        Place::Flowing => false,
+        Place::Ended => false,
+    }
+}
+
+// It has ended.
+pub fn has_ended(direction: Direction) -> bool
+    ensures { λ r. ⌜ r ≡ isEnded (direction .place) ⌝ }
+{
+    let place = direction.place;
+    match place {
+        Place::Ended => true,
+        Place::Holding => false,
+        Place::Flowing => false,
+        Place::Passing => false,
+    }
+}
+
+// The direction, whose octets pass at once from now on unless it has ended.
+pub fn passes_from_now(direction: Direction) -> Direction
+    ensures { λ r. ⌜ r ≡ passesFromNow direction (direction .place) ⌝ }
+{
+    let place = direction.place;
+    match place {
+        Place::Ended => direction,
+        Place::Holding => passing(),
+        Place::Flowing => passing(),
+        Place::Passing => passing(),
+    }
+}
+
+fn passing() -> Direction
+    ensures { λ r. ⌜ r ≡ at Place.Passing 0 ⌝ }
+{
+    Direction {
+        place: Place::Passing,
+        held: 0,
+    }
 }

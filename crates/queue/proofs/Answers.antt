@@ -52,6 +52,15 @@ answers-most (Kind.TranslatedEpsv ∷ ks) = omega arith
 answers-most (Kind.Own a ∷ ks) = let h = answers-most ks in omega arith
 answers-most (Kind.Auth ∷ ks) = omega arith
 
+-- a queue with none at its head has no text of answers
+pub answers-none : (ks : List Kind) → answersAtHead ks ≡ 0 → headAnswers ks ≡ []
+unfolding answersAtHead headAnswers
+answers-none [] e = refl
+answers-none (Kind.Plain ∷ ks) e = refl
+answers-none (Kind.TranslatedEpsv ∷ ks) e = refl
+answers-none (Kind.Own a ∷ ks) e = absurd (omega arith)
+answers-none (Kind.Auth ∷ ks) e = refl
+
 -- no own answer stands at the head
 pub record NoAnswer (ks : List Kind) : Type 0 where
   pub count : answersAtHead ks ≡ 0

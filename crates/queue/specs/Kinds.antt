@@ -2,8 +2,8 @@
 use mathlib.Core.Bool.{Bool, true, false}
 use mathlib.Core.List.{List, [], _∷_, _++_, map}
 use Prim.Native.Nat.{ℕ, suc, _-_}
-use lib.Dec.{eqb, leb}
-use lib.ListN.{take, drop, set, getD}
+use lib.Dec.{eqb, leb, ltb}
+use lib.ListN.{length, take, drop, set, getD}
 use Rattle.rules.specs.Octets.{choose}
 use Rattle.rules.specs.declared.OwnAnswer.{OwnAnswer}
 use Rattle.rules.specs.declared.Kind.{Kind}
@@ -70,7 +70,15 @@ pushed kinds owed (Owes.One k) = set kinds owed (codeOf k)
 unfoldable pub shifted : List ℕ → ℕ → ℕ → List ℕ
 shifted kinds n owed = drop n (take owed kinds) ++ drop (owed - n) kinds
 
+-- the same in an array that has them all; numbers that it does not have are not moved
+abbrev pub shiftedIn : List ℕ → ℕ → ℕ → List ℕ
+shiftedIn kinds n owed = choose (leb owed (length kinds)) (shifted kinds n owed) kinds
+
+-- behind the first n kinds none is owed, or the first one's number is that of a plain reply or a translated EPSV
+unfoldable pub isStill : List ℕ → ℕ → ℕ → Bool
+isStill kinds n owed = choose (leb owed n) true (ltb (getD kinds n 0) 2)
+
 -- this page's definitions, for a proof that computes with them
 unfoldable pub kinds-opened : Unit {0}
-unfolding stateCode answerCode codeOf isListed kindOf queueOf headOf answersAtHead pushed shifted
+unfolding stateCode answerCode codeOf isListed kindOf queueOf headOf answersAtHead pushed shifted isStill
 kinds-opened = tt

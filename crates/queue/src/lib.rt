@@ -1,12 +1,12 @@
-// The queue of replies owed, as the record has it: kinds as numbers, the first kind, the own answers at its head, and a
-// kind put behind the last one.
+// The queue of replies owed, as the record has it: kinds as numbers, the first kind, the own answers at its head, and
+// what is put in and leaves.
 ghost use mathlib.Core.Path.{_≡_};
 ghost use Prim.Native.Nat.{_+_, _≤_};
 ghost use lib.ListN.{length, drop};
-ghost use Rattle.rules.specs.Replies.{headAnswers};
+ghost use Rattle.rules.specs.Replies.{headAnswers, authAtHead};
 ghost use Rattle.output.specs.Buffer.{placed, placeAfter};
-ghost use Rattle.queue.specs.Kinds.{answerCode, codeOf, stateKind, kindOf, queueOf, headOf, answersAtHead, pushed};
-ghost use Rattle.queue.specs.Heads.{answerFirst};
+ghost use Rattle.queue.specs.Kinds.{answerCode, codeOf, stateKind, kindOf, queueOf, headOf, answersAtHead, pushed, shiftedIn, isStill};
+ghost use Rattle.queue.specs.Heads.{answerFirst, planOf};
 use own::answer_length;
 use own::put_answer;
 use rules::Kind;
@@ -74,6 +74,13 @@ fn state_kind(epsv: bool, eprt: bool) -> Kind
 pub struct AnswersDue {
     pub until: usize,
     pub length: usize,
+}
+
+// How the queue will settle: how many kinds leave it, how long their answers are, and whether AUTH is first then.
+pub struct Plan {
+    pub leaving: usize,
+    pub answers: usize,
+    pub auth: bool,
 }
 
 // An own answer that comes next, or none.
@@ -173,4 +180,82 @@ pub fn push(kinds: [u8; 16], owed: usize, owes: Owes) -> [u8; 16]
     let mut longer = kinds;
     longer[owed] = code_of(kind);
     longer
+}
+
+// AUTH comes first among the kinds owed from number `from` on.
+fn auth_at(kinds: [u8; 16], from: usize, owed: usize) -> bool
+    ensures { λ r. ⌜ r ≡ authAtHead (drop from (queueOf kinds owed)) ⌝ }
+{
+    if owed <= from {
+        return false;
+    }
+    if 16 <= from {
+        return false;
+    }
+    let kind = kind_of(kinds[from]);
+    match kind {
+        Kind::Auth => true,
+        Kind::Plain => false,
+        Kind::TranslatedEpsv => false,
+        Kind::Own(_) => false,
+    }
+}
+
+// Behind the first `from` kinds none is owed, or the first one's number is that of a plain reply or a translated EPSV: no
+// own answer and not AUTH.
+pub fn is_still(kinds: &[u8], from: usize, owed: usize) -> bool
+    ensures { λ r. ⌜ r ≡ isStill (now (kinds .entry)) from owed ⌝ }
+{
+    if owed <= from {
+        return true;
+    }
+    if kinds.len() <= from {
+        return true;
+    }
+    kinds[from] < 2
+}
+
+// What own answers and the AUTH step will do once the first `from` kinds are removed, where `blocked` answers wait.
+pub fn planned(kinds: [u8; 16], from: usize, owed: usize, blocked: bool) -> Plan
+    ensures { λ r. ⌜ r ≡ planOf blocked (queueOf kinds owed) from ⌝ }
+    ensures { λ r. ⌜ r .answers ≤ 768 ⌝ }
+{
+    if is_still(&kinds, from, owed) {
+        return Plan {
+            leaving: from,
+            answers: 0,
+            auth: false,
+        };
+    }
+    if blocked {
+        return Plan {
+            leaving: from,
+            answers: 0,
+            auth: auth_at(kinds, from, owed),
+        };
+    }
+    let d = due(kinds, from, owed);
+    let until = d.until;
+    Plan {
+        leaving: until,
+        answers: d.length,
+        auth: auth_at(kinds, until, owed),
+    }
+}
+
+// The kinds are moved `by` places to the front, where they lie.
+pub fn shift(kinds: &mut [u8], by: usize, owed: usize)
+    ensures { λ _. ⌜ now (kinds .exit) ≡ shiftedIn (now (kinds .entry)) by owed ⌝ }
+{
+    if kinds.len() < owed {
+        return;
+    }
+    if by == 0 {
+        return;
+    }
+    let mut i = by;
+    while i < owed {
+        kinds[i - by] = kinds[i];
+        i += 1;
+    }
 }

@@ -15,7 +15,8 @@ use Rattle.places.specs.declared.Place.{Place}
 use Rattle.places.specs.declared.Direction.{Direction}
 use Rattle.records.specs.declared.Session.{Session}
 use Rattle.records.specs.declared.Refusal.{Refusal}
-use Rattle.records.specs.Sound.{isHolding, soundDirection, sound, refusalOf, refusalBy}
+use Rattle.places.specs.Places.{isHolding}
+use Rattle.records.specs.Sound.{soundDirection, sound, refusalOf, refusalBy}
 
 -- "Order: 3, 4, 6": each case knows that those before it are not so
 module _ (P : Option Answer → Type 0) where

@@ -1,2 +1,3 @@
 -- Which records and calls are refused, on the declared structs.
 pub mod Sound
+pub mod Controls

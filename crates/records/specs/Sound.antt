@@ -1,32 +1,21 @@
 -- Which records number 4 refuses, and which calls are refused at all.
-use mathlib.Core.Bool.{Bool, true, false}
+use mathlib.Core.Path.{_≡_}
+use mathlib.Core.Bool.{Bool, true, false, _&&_, _||_}
 use mathlib.Core.List.{List}
 use mathlib.Core.Option.{Option, none, some}
-use Prim.Native.Nat.{ℕ}
+use Prim.Native.Nat.{ℕ, _-_, _≤_}
+use lib.Dec.{leb}
 use lib.ListN.{take}
 use Rattle.rules.specs.Octets.{every}
-use Rattle.rules.specs.Answers.{Side, client, server, sideOf, soundHeld, soundRecord, refusal}
+use Rattle.rules.specs.Lines.{judged}
+use Rattle.rules.specs.Answers.{Side, client, server, sideOf, mostOwed, soundHeld, soundRecord, refusal}
 use Rattle.rules.specs.declared.Answer.{Answer}
 use Rattle.queue.specs.Kinds.{isListed}
-use Rattle.places.specs.declared.Place.{Place}
 use Rattle.places.specs.declared.Direction.{Direction}
 use Rattle.records.specs.declared.Control.{Control}
 use Rattle.records.specs.declared.Session.{Session}
 use Rattle.records.specs.declared.Refusal.{Refusal}
-
--- its line's octets are held
-abbrev pub isHolding : Place → Bool
-isHolding Place.Holding = true
-isHolding Place.Flowing = false
-isHolding Place.Passing = false
-isHolding Place.Ended = false
-
--- "that direction has ended"
-abbrev pub isEnded : Place → Bool
-isEnded Place.Holding = false
-isEnded Place.Flowing = false
-isEnded Place.Passing = false
-isEnded Place.Ended = true
+use Rattle.places.specs.Places.{isHolding, isEnded, flowsOrEnded}
 
 -- "over 511 octets held, or octets held where the line already flows, the direction has ended or its octets pass at once"
 unfoldable pub soundDirection : Direction → Bool
@@ -57,7 +46,30 @@ unfoldable pub refusalBy : Option Answer → Refusal
 refusalBy none = Refusal.Nothing
 refusalBy (some a) = Refusal.By a
 
+-- ---- what the arrays can hold
+
+-- the counts are none that a record's arrays can't hold; number 4 refuses a record in which one is
+unfoldable pub holdable : Control → Bool
+holdable c = leb (c .owed) mostOwed && leb (c .client .held) (judged - 1) && leb (c .server .held) (judged - 1)
+
+-- the same as a fact
+pub record Counted (c : Control) : Type 0 where
+  pub owed : c .owed ≤ 16
+  pub command : c .client .held ≤ 511
+  pub reply : c .server .held ≤ 511
+
+-- the side that the code's test names
+abbrev pub sideIf : Bool → Side
+sideIf true = client
+sideIf false = server
+
+-- ---- own answers wait
+
+-- "unless a reply is unfinished, a server line is flowing, or the server direction has ended"
+unfoldable pub blocked : Control → Bool
+blocked c = c .unfinished || flowsOrEnded (c .server .place)
+
 -- this page's definitions, for a proof that computes with them
 unfoldable pub sound-opened : Unit {0}
-unfolding soundDirection sound refusalOf refusalBy
+unfolding soundDirection sound refusalOf refusalBy holdable blocked
 sound-opened = tt

@@ -3,11 +3,15 @@ ghost use mathlib.Core.Path.{_≡_};
 ghost use Prim.Native.Nat.{_≤_};
 ghost use lib.ListN.{take};
 ghost use Rattle.rules.specs.Octets.{every};
-ghost use Rattle.rules.specs.Answers.{sideOf};
+ghost use Rattle.rules.specs.Answers.{sideOf, isQueueFull};
+ghost use Rattle.places.specs.Places.{isPassing};
 ghost use Rattle.queue.specs.Kinds.{isListed};
-ghost use Rattle.records.specs.Sound.{soundDirection, soundOf, isEnded, directionOf, refusalOn, refusalOf, refusalBy};
+ghost use Rattle.records.specs.Controls.{withClient, withServer};
+ghost use Rattle.records.specs.Sound.{soundDirection, soundOf, directionOf, refusalOn, refusalOf, refusalBy, blocked as isBlocked, holdable as areHoldable, sideIf};
 use places::Direction;
 use places::Place;
+use places::has_ended;
+use places::is_passing;
 use rules::Answer;
 use rules::Switches;
 
@@ -98,18 +102,6 @@ fn sound(live: bool, control: Control, kinds: [u8; 16]) -> bool
     sound_direction(server)
 }
 
-fn has_ended(direction: Direction) -> bool
-    ensures { λ r. ⌜ r ≡ isEnded (direction .place) ⌝ }
-{
-    let place = direction.place;
-    match place {
-        Place::Ended => true,
-        Place::Holding => false,
-        Place::Flowing => false,
-        Place::Passing => false,
-    }
-}
-
 // The direction of a number, the server's for every number but 0.
 fn direction_of(control: Control, number: u8) -> Direction
     ensures { λ r. ⌜ r ≡ directionOf (sideOf number) control ⌝ }
@@ -143,4 +135,79 @@ pub fn refusal_of(session: Session, direction: u8) -> Refusal
     let control = session.control;
     let kinds = session.kinds;
     refusal_on(session.live, control, kinds, direction)
+}
+
+// Own answers have to wait.
+pub fn blocked(control: Control) -> bool
+    ensures { λ r. ⌜ r ≡ isBlocked control ⌝ }
+{
+    if control.unfinished {
+        return true;
+    }
+    let server = control.server;
+    let place = server.place;
+    match place {
+        Place::Holding => false,
+        Place::Flowing => true,
+        Place::Passing => false,
+        Place::Ended => true,
+    }
+}
+
+// The control with what the client's octets change.
+pub fn with_client(control: Control, switches: Switches, client: Direction, owed: usize) -> Control
+    ensures { λ r. ⌜ r ≡ withClient control switches client owed ⌝ }
+{
+    let server = control.server;
+    Control {
+        switches,
+        client,
+        server,
+        owed,
+        unfinished: control.unfinished,
+    }
+}
+
+// The control with what the server's octets, and the queue that settles, change.
+pub fn with_server(control: Control, server: Direction, owed: usize, unfinished: bool) -> Control
+    ensures { λ r. ⌜ r ≡ withServer control server owed unfinished ⌝ }
+{
+    let switches = control.switches;
+    let client = control.client;
+    Control {
+        switches,
+        client,
+        server,
+        owed,
+        unfinished,
+    }
+}
+
+// The next octet is the client's, AUTH is not yet recognised, and 16 replies are owed.
+pub fn queue_full(from_client: bool, control: Control) -> bool
+    ensures { λ r. ⌜ r ≡ isQueueFull (sideIf «from_client») (isPassing (control .client .place)) (control .owed) ⌝ }
+{
+    if !from_client {
+        return false;
+    }
+    let direction = control.client;
+    if is_passing(direction) {
+        return false;
+    }
+    16 <= control.owed
+}
+
+// The counts are none that the record's arrays can't hold.
+pub fn holdable(counts: Control) -> bool
+    ensures { λ r. ⌜ r ≡ areHoldable counts ⌝ }
+{
+    if 16 < counts.owed {
+        return false;
+    }
+    let client = counts.client;
+    if 511 < client.held {
+        return false;
+    }
+    let server = counts.server;
+    server.held <= 511
 }

@@ -16,9 +16,9 @@ use Rattle.records.specs.declared.Session.{Session}
 use Rattle.steps.specs.declared.Written.{Written}
 use Rattle.records.specs.declared.Refusal.{Refusal}
 use Rattle.steps.specs.Steps.{State, Step}
-use Rattle.steps.specs.Takes.{Took, takes, Core, sideIf, coreFrom, coreTook}
+use Rattle.steps.specs.Takes.{Took, takes, Core, coreFrom, coreTook}
 use Rattle.session.specs.Calls.{Outcome, counted, takenFor, fixedOf, stateOf, sessionAfter, refused, unlessRefused, outcome, arrived, endStep, endOutcome, ended}
-use Rattle.records.specs.Sound.{refusalOf, refusalBy}
+use Rattle.records.specs.Sound.{refusalOf, refusalBy, sideIf}
 use Rattle.records.proofs.Sides.{not-zero}
 use Rattle.records.proofs.Refusals.{by-answer}
 use Rattle.output.proofs.Front.{front-placed}

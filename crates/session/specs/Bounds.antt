@@ -12,7 +12,7 @@ use Rattle.rules.specs.Lines.{judged}
 use Rattle.records.specs.declared.Session.{Session}
 use Rattle.steps.specs.Steps.{Step, octetStep}
 use Rattle.records.specs.Sound.{sound, refusalOf}
-use Rattle.steps.specs.Takes.{isPassing}
+use Rattle.places.specs.Places.{isPassing}
 use Rattle.session.specs.Calls.{stateOf, fixedOf, arrived}
 
 -- what the types of a record's arrays say of it

@@ -13,6 +13,7 @@ use Rattle.rules.specs.declared.Switches.{Switches}
 use Rattle.places.specs.declared.Place.{Place}
 use Rattle.places.specs.declared.Direction.{Direction}
 use Rattle.records.specs.declared.Control.{Control}
+use Rattle.records.specs.Controls.{withClient, withServer}
 use Rattle.records.specs.declared.Counts.{Counts}
 use Rattle.records.specs.declared.Session.{Session}
 use Rattle.records.specs.Sound.{refusalOf, sound-opened}
@@ -160,13 +161,7 @@ endStep client s =
     let c = s .control in
     record {
       state = record {
-        control = record {
-          switches = c .switches;
-          client = endedDirection;
-          server = c .server;
-          owed = c .owed;
-          unfinished = c .unfinished;
-        };
+        control = withClient c (c .switches) endedDirection (c .owed);
         command = s .command;
         reply = s .reply;
         kinds = s .kinds;
@@ -178,13 +173,7 @@ endStep server s =
     let c = s .control in
     record {
       state = record {
-        control = record {
-          switches = c .switches;
-          client = c .client;
-          server = endedDirection;
-          owed = c .owed;
-          unfinished = c .unfinished;
-        };
+        control = withServer c endedDirection (c .owed) (c .unfinished);
         command = s .command;
         reply = s .reply;
         kinds = s .kinds;

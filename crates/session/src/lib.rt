@@ -5,9 +5,11 @@ ghost use lib.Dec.{leb};
 ghost use lib.ListN.{length, drop, replicate};
 ghost use Prim.Native.Nat.{_≤_};
 ghost use Rattle.rules.specs.Answers.{wrapped, client as clientSide, server as serverSide};
-ghost use Rattle.session.specs.Calls.{prepared, startSession, startControl, deadSession, stateOf, arrived, endStep, endOutcome, ended, refused as refusedOutcome, counted as countedBy, takenFor, sessionAfter, offset as offsetIn};
+ghost use Rattle.session.specs.Calls.{prepared, endedDirection, startSession, startControl, deadSession, stateOf, arrived, endStep, endOutcome, ended, refused as refusedOutcome, counted as countedBy, takenFor, sessionAfter, offset as offsetIn};
 ghost use Rattle.output.specs.Buffer.{placed};
-ghost use Rattle.steps.specs.Takes.{stateFrom, sideIf};
+ghost use Rattle.records.specs.Sound.{sideIf};
+ghost use Rattle.steps.specs.Takes.{stateFrom};
+use arrivals::take;
 use output::put;
 use output::sixteen;
 use places::Direction;
@@ -17,6 +19,8 @@ use records::Counts;
 use records::Refusal;
 use records::Session;
 use records::refusal_of;
+use records::with_client;
+use records::with_server;
 use rules::Answer;
 use rules::Switches;
 use steps::COMMAND;
@@ -24,7 +28,6 @@ use steps::KINDS;
 use steps::MAPPED;
 use steps::REPLY;
 use steps::Written;
-use steps::take;
 
 // What setup returns.
 pub struct Prepared {
@@ -335,18 +338,7 @@ fn end_client(session: Session, to_server: &mut [u8]) -> Called
         server: put(to_server, 0, &command[..held]),
         client: 0,
     };
-    let switches = before.switches;
-    let server = before.server;
-    let control = Control {
-        switches,
-        client: Direction {
-            place: Place::Ended,
-            held: 0,
-        },
-        server,
-        owed: before.owed,
-        unfinished: before.unfinished,
-    };
+    let control = with_client(before, before.switches, ended_direction(), before.owed);
     Called {
         answer: Answer::Done,
         taken: 0,
@@ -374,23 +366,21 @@ fn end_server(session: Session, to_client: &mut [u8]) -> Called
         server: 0,
         client: put(to_client, 0, &reply[..held]),
     };
-    let switches = before.switches;
-    let client = before.client;
-    let control = Control {
-        switches,
-        client,
-        server: Direction {
-            place: Place::Ended,
-            held: 0,
-        },
-        owed: before.owed,
-        unfinished: before.unfinished,
-    };
+    let control = with_server(before, ended_direction(), before.owed, before.unfinished);
     Called {
         answer: Answer::Done,
         taken: 0,
         written,
         session: after(session, false, 0, written, control, command, reply, kinds),
+    }
+}
+
+fn ended_direction() -> Direction
+    ensures { λ r. ⌜ r ≡ endedDirection ⌝ }
+{
+    Direction {
+        place: Place::Ended,
+        held: 0,
     }
 }
 

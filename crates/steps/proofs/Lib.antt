@@ -1,19 +1,11 @@
 -- Laws that the proofs of this crate's functions, and of those above it, cite.
 pub mod Stops
 pub mod Fits
-pub mod Shifting
-pub mod Still
+pub mod Quiet
 pub mod Settles
 pub mod Turns
 pub mod Octets
 pub mod Halves
-pub mod Takes
-pub mod Quiet
-pub mod Single
-pub mod Runs
-pub mod Parts
-pub mod LineEnds
 pub mod Lent
 pub mod Over
-pub mod PlainLines
-pub mod PlainReplies
+pub mod Nexts

@@ -1,4 +1,4 @@
--- A run or an octet over what is lent: the lines are lent further, and the kinds are put back behind it.
+-- The lines are lent further, and are back; the kinds are put back behind an octet.
 use mathlib.Core.Path.{_≡_, sym, ap, subst, _∙_}
 use mathlib.Core.Bool.{Bool}
 use mathlib.Core.List.{List}
@@ -13,7 +13,6 @@ use Rattle.steps.specs.declared.Written.{Written}
 use Rattle.steps.specs.Steps.{State}
 use Rattle.steps.specs.Takes.{commandIn, replyIn, stateIn, stateFrom, coreFrom, coreIn, kindsLent, addressesLent, stateLent, coreLent}
 use Rattle.steps.specs.Core.{Stepped}
-use Rattle.steps.specs.Runs.{Ran}
 use Rattle.steps.proofs.Lent.{put-size, lines-lent, lines-put, lines-kinds, lines-addresses, kinds-back, kinds-addresses}
 
 module _ (lent lines : List ℕ) (all : length lent ≡ 1058) (kept : length lines ≡ length (midOf 36 (length lent - 36) lent)) where
@@ -34,18 +33,7 @@ module _ (lent lines : List ℕ) (all : length lent ≡ 1058) (kept : length lin
   pub then-addresses : addressesLent then ≡ addressesLent lent
   then-addresses = lines-addresses lent all lines size
 
-  -- a run of any kind
-  pub run-over : (f : Fixed) (d : Side) (l : List ℕ) (c c′ : Control) (kinds sb cb sb′ cb′ : List ℕ) (w w′ : Written) (i j : ℕ)
-      → kinds ≡ kindsLent lent
-      → Ran f d l (coreIn c (midOf 36 (length lent - 36) lent) kinds sb cb w) i (coreIn c′ lines kinds sb′ cb′ w′) j
-      → Ran f d l (coreLent c lent sb cb w) i (coreLent c′ then sb′ cb′ w′) j
-  run-over f d l c c′ kinds sb cb sb′ cb′ w w′ i j e ran =
-      subst (λ (s : State). Ran f d l (coreLent c lent sb cb w) i (coreFrom s sb′ cb′ w′) j) (sym (then-state c′))
-      (subst (λ (m : List ℕ). Ran f d l (coreIn c m (kindsLent lent) sb cb w) i (coreIn c′ lines (kindsLent lent) sb′ cb′ w′) j)
-      (lines-lent lent all)
-      (subst (λ (k : List ℕ). Ran f d l (coreIn c (midOf 36 (length lent - 36) lent) k sb cb w) i (coreIn c′ lines k sb′ cb′ w′) j) e ran))
-
-  -- and an octet of any kind, behind which the kinds are put back
+  -- an octet of any kind, behind which the kinds are put back
   module _ (kinds : List ℕ) (sixteen : length kinds ≡ 16) where
     pub put-state : (c : Control) → stateLent c (putMid 20 16 then kinds) ≡ stateIn c lines kinds
     put-state c =

@@ -12,14 +12,14 @@ use Rattle.rules.specs.declared.Kind.{Kind}
 use Rattle.octets.proofs.Choices.{by-test, choose-true, choose-false}
 use Rattle.places.specs.declared.Place.{Place}
 use Rattle.places.specs.declared.Direction.{Direction}
-use Rattle.places.specs.Places.{at}
+use Rattle.places.specs.Places.{at, isFlowing, isPassing, flowsOrEnded, passesFromNow}
 use Rattle.queue.specs.Kinds.{queueOf, answersAtHead, shifted}
+use Rattle.queue.proofs.Answers.{answers-none}
 use Rattle.queue.proofs.Listed.{shifted-queue}
-use Rattle.steps.specs.declared.settling.Plan.{Plan}
+use Rattle.queue.specs.declared.Plan.{Plan}
 use Rattle.steps.specs.Core.{Planned}
-use Rattle.steps.specs.Takes.{isPassing}
-use Rattle.steps.specs.Runs.{isFlowing}
-use Rattle.steps.specs.Steps.{State, flowsOrEnded, blocked, owedFrom, leaving, answersText, passesFromNow, isAuthNext, settledState, settledText}
+use Rattle.records.specs.Sound.{blocked}
+use Rattle.steps.specs.Steps.{State, owedFrom, leaving, answersText, isAuthNext, settledState, settledText}
 use Rattle.steps.specs.Settled.{Through, passes, ended, Settled}
 
 -- ---- places by their tests
@@ -41,14 +41,6 @@ pub direction-at : (d : Direction) {p : Place} → d .place ≡ p → d .held �
 direction-at d e n = λ i. at (e i) (n i)
 
 -- ---- queues
-
-pub answers-none : (ks : List Kind) → answersAtHead ks ≡ 0 → headAnswers ks ≡ []
-unfolding answersAtHead headAnswers
-answers-none [] e = refl
-answers-none (Kind.Plain ∷ ks) e = refl
-answers-none (Kind.TranslatedEpsv ∷ ks) e = refl
-answers-none (Kind.Own a ∷ ks) e = absurd (omega arith)
-answers-none (Kind.Auth ∷ ks) e = refl
 
 answers-gone : (ks : List Kind) → answersAtHead (drop (answersAtHead ks) ks) ≡ 0
 unfolding answersAtHead

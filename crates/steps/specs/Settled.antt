@@ -5,7 +5,8 @@ use Prim.Native.Nat.{ℕ}
 use Rattle.rules.specs.Replies.{authAtHead}
 use Rattle.places.specs.declared.Place.{Place}
 use Rattle.queue.specs.Kinds.{queueOf, answersAtHead}
-use Rattle.steps.specs.Steps.{State, blocked}
+use Rattle.records.specs.Sound.{blocked}
+use Rattle.steps.specs.Steps.{State}
 
 -- the server's octets pass at once, or it has ended, and none is held
 pub data Through : Place → ℕ → Type 0 where

@@ -1,20 +1,24 @@
-// The octets of an arrival, by lines, runs and octets, until one has to wait.
+// One octet of a direction, over what is lent of a record.
 ghost use mathlib.Core.Path.{_≡_};
+ghost use mathlib.Core.Bool.{false};
+ghost use Prim.Native.Nat.{_≤_};
 ghost use lib.ListN.{length};
+ghost use borrow.Rule.Slice.PartMut.{putMid};
 ghost use Rattle.rules.specs.Answers.{isQueueFull};
-ghost use Rattle.steps.specs.Takes.{isPassing as passes, takes, tookIn, holdable as areHoldable, fixedLent, addressesLent, stateLent, coreLent, sideIf, Given, Counted};
-use next::next_octet;
-use next::next_run;
-use places::Direction;
-use places::Place;
+ghost use Rattle.places.specs.Places.{isPassing};
+ghost use Rattle.records.specs.Sound.{sideIf, Counted};
+ghost use Rattle.steps.specs.Takes.{fixedLent, addressesLent, kindsLent, coreLent, coreBehind, isWithin, tookNext};
+ghost use Rattle.steps.specs.Core.{Bounded, Stepped};
+use octet::any_octet;
+use output::four;
+use output::put;
+use output::sixteen;
 use records::Control;
+use records::holdable;
+use records::queue_full;
 use rules::Answer;
-use rules::Switches;
 
-mod next;
 mod octet;
-mod plain;
-mod running;
 mod settling;
 
 // The octets of a line that may be held.
@@ -45,213 +49,168 @@ pub struct Written {
     pub client: usize,
 }
 
-// What stopped an arrival and how many octets it took; and the control and the counts then.
-pub struct Taken {
+// What an octet answers, 0, 1 or 2, or 4 from what can't be; and the control and the counts then.
+pub struct Next {
     pub answer: Answer,
-    pub taken: usize,
     pub control: Control,
     pub written: Written,
 }
 
-fn is_passing(direction: Direction) -> bool
-    ensures { λ r. ⌜ r ≡ passes (direction .place) ⌝ }
+// Whether an octet's output fits; and the control and the counts after it, as they were where it does not fit.
+struct Fitted {
+    fits: bool,
+    control: Control,
+    written: Written,
+}
+
+// What a setup fixed, as it is lent.
+fn fixed_in(supported: bool, lent: &[u8]) -> Fixed
+    requires { ⌜ length (now lent) ≡ 1058 ⌝ }
+    ensures { λ r. ⌜ r ≡ fixedLent supported (now (lent .entry)) ⌝ }
 {
-    let place = direction.place;
-    match place {
-        Place::Passing => true,
-        Place::Holding => false,
-        Place::Flowing => false,
-        Place::Ended => false,
+    let client = sixteen(&lent[..MAPPED]);
+    let mapped = four(&lent[MAPPED..KINDS]);
+    Fixed {
+        client,
+        mapped,
+        supported,
     }
 }
 
-// The next octet is the client's, AUTH is not yet recognised, and 16 replies are owed.
-fn queue_full(from_client: bool, control: Control) -> bool
-    ensures { λ r. ⌜ r ≡ isQueueFull (sideIf «from_client») (passes (control .client .place)) (control .owed) ⌝ }
+// The kinds owed, as they are lent. Fewer octets are no record's, and what is read of them is left open.
+pub fn kinds_in(lent: &[u8]) -> [u8; 16]
+    ensures { λ r. ⌜ (36 ≤ length (now (lent .entry)) → r ≡ kindsLent (now (lent .entry))) ⌝ }
 {
-    if !from_client {
-        return false;
+    if lent.len() < COMMAND {
+        return [0; 16];
     }
-    let direction = control.client;
-    if is_passing(direction) {
-        return false;
-    }
-    16 <= control.owed
+    sixteen(&lent[KINDS..COMMAND])
 }
 
-// The counts are none that the record's arrays can't hold.
-fn holdable(control: Control) -> bool
-    ensures { λ r. ⌜ r ≡ areHoldable control ⌝ }
+fn put_kinds(lent: &mut [u8], kinds: [u8; 16])
+    requires { ⌜ length (now lent) ≡ 1058 ⌝ }
+    ensures { λ _. ⌜ (now (lent .exit) ≡ putMid 20 16 (now (lent .entry)) kinds) × (length kinds ≡ 16) ⌝ }
 {
-    if 16 < control.owed {
-        return false;
-    }
-    let client = control.client;
-    if HELD < client.held {
-        return false;
-    }
-    let server = control.server;
-    server.held <= HELD
+    put(&mut lent[KINDS..COMMAND], 0, &kinds);
 }
 
-// The octets of an arrival, until one has to wait; from counts that can't be, or another number of lent octets, nothing
-// is taken.
-pub fn take(
+// Counts and places are none that can't be.
+fn within(control: Control, lent: usize, server: usize, client: usize, written: Written) -> bool
+    ensures { λ r. ⌜ r ≡ isWithin control lent server client written ⌝ }
+{
+    if !holdable(control) {
+        return false;
+    }
+    if lent != LENT {
+        return false;
+    }
+    if server < written.server {
+        return false;
+    }
+    written.client <= client
+}
+
+// An octet of a direction: its output goes behind what is written already. From counts and places that can't be, or
+// where it has to wait, all is left as it was.
+pub fn next_octet(
     supported: bool,
     from_client: bool,
-    start: Control,
-    octets: &[u8],
+    control: Control,
+    x: u8,
     lent: &mut [u8],
     to_server: &mut [u8],
     to_client: &mut [u8],
-) -> Taken
+    written: Written,
+) -> Next
     ensures { λ r.
-        let server = now («to_server» .entry) in
-        let client = now («to_client» .entry) in
-        let t = tookIn supported (sideIf «from_client») start (now (lent .entry)) (now (octets .entry)) (length server) (length client) in
-        let after = coreLent (r .control) (now (lent .exit)) (now («to_server» .exit)) (now («to_client» .exit)) (r .written) in
-        ⌜ Given t server client (r .answer) (r .taken) after ⌝ }
+        let k = coreLent control (now (lent .entry)) (now («to_server» .entry)) (now («to_client» .entry)) written in
+        let m = coreLent (r .control) (now (lent .exit)) (now («to_server» .exit)) (now («to_client» .exit)) (r .written) in
+        let can = isWithin control (length (now (lent .entry))) (length (now («to_server» .entry))) (length (now («to_client» .entry))) written in
+        let t = tookNext can (fixedLent supported (now (lent .entry))) (sideIf «from_client») x k in
+        ⌜ (r .answer ≡ t .answer) × (m ≡ coreBehind t k) ⌝ }
     ensures fixed { λ _. ⌜ addressesLent (now (lent .exit)) ≡ addressesLent (now (lent .entry)) ⌝ }
-    ensures counts { λ r. ⌜ (Counted start → Counted (r .control)) ⌝ }
+    ensures counts { λ r. ⌜ (Counted control → Counted (r .control)) ⌝ }
 {
-    if !holdable(start) {
-        return nothing_taken(start);
+    if !within(
+        control,
+        lent.len(),
+        to_server.len(),
+        to_client.len(),
+        written,
+    ) {
+        return answered(Answer::BadRecord, control, written);
     }
-    if lent.len() != LENT {
-        return nothing_taken(start);
+    if queue_full(from_client, control) {
+        return answered(Answer::QueueFull, control, written);
     }
-    take_each(
+    let o = lent_octet(
         supported,
         from_client,
-        start,
-        octets,
+        control,
+        x,
         lent,
         to_server,
         to_client,
-    )
+        written,
+    );
+    let then = o.control;
+    let given = o.written;
+    if !o.fits {
+        return answered(Answer::NoRoom, then, given);
+    }
+    answered(Answer::Done, then, given)
 }
 
-// What is refused as a record that can't be.
-fn nothing_taken(control: Control) -> Taken
-    ensures { λ r.
-        ⌜ r ≡ record { answer = Answer.BadRecord; taken = 0; control = control; written = record { server = 0; client = 0 } } ⌝ }
+fn answered(answer: Answer, control: Control, written: Written) -> Next
+    ensures { λ r. ⌜ r ≡ record { answer = answer; control = control; written = written } ⌝ }
 {
-    Taken {
-        answer: Answer::BadRecord,
-        taken: 0,
-        control,
-        written: Written {
-            server: 0,
-            client: 0,
-        },
-    }
-}
-
-// Plain lines and a run behind them, and the octet behind those, again and again, where the counts can be held.
-fn take_each(
-    supported: bool,
-    from_client: bool,
-    start: Control,
-    octets: &[u8],
-    lent: &mut [u8],
-    to_server: &mut [u8],
-    to_client: &mut [u8],
-) -> Taken
-    requires { ⌜ Counted start ⌝ }
-    requires { ⌜ length (now lent) ≡ 1058 ⌝ }
-    ensures { λ r.
-        let server = now («to_server» .entry) in
-        let client = now («to_client» .entry) in
-        let fixed = fixedLent supported (now (lent .entry)) in
-        let t = takes fixed (sideIf «from_client») (stateLent start (now (lent .entry))) (now (octets .entry)) (length server) (length client) in
-        let after = coreLent (r .control) (now (lent .exit)) (now («to_server» .exit)) (now («to_client» .exit)) (r .written) in
-        ⌜ Given t server client (r .answer) (r .taken) after ⌝ }
-    ensures fixed { λ _. ⌜ addressesLent (now (lent .exit)) ≡ addressesLent (now (lent .entry)) ⌝ }
-    ensures counts { λ r. ⌜ Counted (r .control) ⌝ }
-{
-    let mut control = start;
-    let mut written = Written {
-        server: 0,
-        client: 0,
-    };
-    let mut i = 0;
-    while i < octets.len() {
-        let run = next_run(
-            from_client,
-            control,
-            octets,
-            i,
-            lent,
-            to_server,
-            to_client,
-            written,
-        );
-        control = rebuilt(run.control);
-        written = run.written;
-        i = run.taken;
-        if i < octets.len() {
-            if queue_full(from_client, control) {
-                return Taken {
-                    answer: Answer::QueueFull,
-                    taken: i,
-                    control,
-                    written,
-                };
-            }
-            let o = next_octet(
-                supported,
-                from_client,
-                control,
-                octets[i],
-                lent,
-                to_server,
-                to_client,
-                written,
-            );
-            control = rebuilt(o.control);
-            written = o.written;
-            if !o.fits {
-                return Taken {
-                    answer: Answer::NoRoom,
-                    taken: i,
-                    control,
-                    written,
-                };
-            }
-            i += 1;
-        }
-    }
-    Taken {
-        answer: Answer::Done,
-        taken: i,
+    Next {
+        answer,
         control,
         written,
     }
 }
 
-// The control, field by field: a struct that is copied whole drags its padding through the loop.
-fn rebuilt(control: Control) -> Control
-    ensures { λ r. ⌜ r ≡ control ⌝ }
+// The same where the counts can be held and the queue is not full.
+fn lent_octet(
+    supported: bool,
+    from_client: bool,
+    control: Control,
+    x: u8,
+    lent: &mut [u8],
+    to_server: &mut [u8],
+    to_client: &mut [u8],
+    written: Written,
+) -> Fitted
+    requires { ⌜ Bounded control written (now «to_server») (now «to_client») ⌝ }
+    requires { ⌜ length (now lent) ≡ 1058 ⌝ }
+    requires { ⌜ isQueueFull (sideIf «from_client») (isPassing (control .client .place)) (control .owed) ≡ false ⌝ }
+    ensures { λ r.
+        let k = coreLent control (now (lent .entry)) (now («to_server» .entry)) (now («to_client» .entry)) written in
+        let m = coreLent (r .control) (now (lent .exit)) (now («to_server» .exit)) (now («to_client» .exit)) (r .written) in
+        ⌜ Stepped (fixedLent supported (now (lent .entry))) (sideIf «from_client») x k (r .fits) m ⌝ }
+    ensures fixed { λ _. ⌜ addressesLent (now (lent .exit)) ≡ addressesLent (now (lent .entry)) ⌝ }
 {
-    let switches = control.switches;
-    let client = control.client;
-    let server = control.server;
-    let client_place = client.place;
-    let server_place = server.place;
-    Control {
-        switches: Switches {
-            epsv: switches.epsv,
-            eprt: switches.eprt,
-        },
-        client: Direction {
-            place: client_place,
-            held: client.held,
-        },
-        server: Direction {
-            place: server_place,
-            held: server.held,
-        },
-        owed: control.owed,
-        unfinished: control.unfinished,
+    let fixed = fixed_in(supported, lent);
+    let kinds = kinds_in(lent);
+    let o = any_octet(
+        fixed,
+        from_client,
+        control,
+        kinds,
+        x,
+        &mut lent[COMMAND..],
+        to_server,
+        to_client,
+        written,
+    );
+    let left = o.kinds;
+    put_kinds(lent, left);
+    let then = o.control;
+    let given = o.written;
+    Fitted {
+        fits: o.fits,
+        control: then,
+        written: given,
     }
 }

@@ -2,7 +2,7 @@
 use mathlib.Core.Path.{sym, ap, _∙_}
 use borrow.Author.Needs.{needs}
 use Rattle.places.specs.declared.Direction.{Direction}
-use Rattle.records.specs.Sound.{isEnded}
+use Rattle.places.specs.Places.{isEnded}
 use Rattle.records.proofs.Refusals.{unknown, unsound, over, taken}
 use Rattle.records.proofs.refusal_on.Statement.{statement}
 use Rattle.records.proofs.refusal_on.Tie as tie

@@ -1,6 +1,7 @@
 -- `session::after` meets its contract: what octets change, and the counts.
 use borrow.Author.Needs.{needs}
-use Rattle.steps.specs.Takes.{sideIf, stateFrom}
+use Rattle.records.specs.Sound.{sideIf}
+use Rattle.steps.specs.Takes.{stateFrom}
 use Rattle.session.proofs.Outcomes.{advanced}
 use Rattle.session.proofs.after.Statement.{statement}
 use Rattle.session.proofs.after.Tie as tie

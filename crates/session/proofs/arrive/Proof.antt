@@ -4,10 +4,12 @@ use borrow.Author.Needs.{needs}
 use lib.Dec.{eqb}
 use lib.ListN.{length}
 use Rattle.session.specs.Calls.{sessionAfter, arrived}
-use Rattle.steps.specs.Takes.{takes, sideIf}
+use Rattle.records.specs.Sound.{sideIf}
+use Rattle.steps.specs.Takes.{takes}
 use Rattle.session.proofs.Lines.{laid-size, laid-fixed, laid-state, arrays-back}
 use Rattle.records.proofs.Refusals.{by-nothing, countable}
-use Rattle.steps.proofs.Takes.{took-all, counts-holdable}
+use Rattle.arrivals.proofs.Going.{took-all}
+use Rattle.records.proofs.Limits.{counts-holdable}
 use Rattle.session.proofs.Outcomes.{side-tested, turned-away, arrives}
 use Rattle.session.proofs.arrive.Statement.{statement}
 use Rattle.session.proofs.arrive.Tie as tie

@@ -1,7 +1,7 @@
 -- `session::counts_then` meets its contract. The octets taken count for the side that they came from.
 use mathlib.Core.Logic.{⊎-elim}
 use borrow.Author.Needs.{needs}
-use Rattle.steps.specs.Takes.{sideIf}
+use Rattle.records.specs.Sound.{sideIf}
 use Rattle.session.proofs.Outcomes.{counts-by}
 use Rattle.session.proofs.counts_then.Statement.{statement}
 use Rattle.session.proofs.counts_then.Tie as tie

@@ -1,5 +1,5 @@
 -- `session::end_client` meets its contract. The held octets are the front of the command's array.
-use mathlib.Core.Path.{_≡_, refl, sym}
+use mathlib.Core.Path.{_≡_, refl, sym, ap, _∙_}
 use Prim.Native.Nat.{_≤_}
 use native.Mathlib.Omega.{arith}
 use lib.ListN.{length}
@@ -7,7 +7,11 @@ use lib.Seq.{length-take-le}
 use borrow.Author.Tests.{le-leb}
 use borrow.Author.Needs.{needs}
 use Rattle.rules.specs.Answers.{client}
-use Rattle.session.specs.Calls.{stateOf, endStep, endOutcome, outcome}
+use Rattle.places.specs.declared.Direction.{Direction}
+use Rattle.records.specs.declared.Control.{Control}
+use Rattle.records.specs.Controls.{withClient}
+use Rattle.steps.specs.Takes.{stateFrom}
+use Rattle.session.specs.Calls.{sessionAfter, stateOf, endStep, endOutcome, outcome}
 use Rattle.output.proofs.Front.{put-size, put-text}
 use Rattle.session.proofs.Outcomes.{no-room, passed-on}
 use Rattle.session.proofs.end_client.Statement.{statement}
@@ -37,6 +41,12 @@ slice-aggregate-put c =
 put-requires : tie.Need-put-requires
 put-requires c κs = search needs
 
+ended-direction-requires : tie.Need-ended-direction-requires
+ended-direction-requires c κs = search needs
+
+with-client-requires : tie.Need-with-client-requires
+with-client-requires c κs = search needs
+
 after-requires : tie.Need-after-requires
 after-requires c κs = search needs
 
@@ -54,9 +64,12 @@ returns-2 c =
     let size : length (s .command) ≡ 511 = search needs in
     let there : held ≤ length (s .command) = omega (arith, start .pre) in
     let room = c .before .before .before .before .before .before .before .before .before .before .before .if1 .left in
-    let p = c .before .before .before .before .before .put .ensures in
+    let put = c .before .before .before .before .before .put in
+    let p = put .ensures in
+    let built = c .before .with-client .ensures ∙ ap (λ (d : Direction). withClient (s .control) (s .control .switches) d (s .control .owed)) (c .before .before .ended-direction .ensures) in
+    let then = c .after .ensures ∙ ap (λ (k : Control). sessionAfter s client 0 (put .result) 0 (stateFrom k (s .command) (s .reply) (s .kinds))) built in
     rw (le-leb held (length out) room) (
-      passed-on s client (endStep client (stateOf s)) (put-size (s .command) out held there room (p .0)) refl (c .after .ensures),
+      passed-on s client (endStep client (stateOf s)) (put-size (s .command) out held there room (p .0)) refl then,
       put-text (s .command) out held there room (p .0) (p .1),
     )
 
@@ -69,6 +82,8 @@ end-client-spec =
     array-share-prefix-command
     slice-aggregate-put
     put-requires
+    ended-direction-requires
+    with-client-requires
     after-requires
     same-length
     returns-2)

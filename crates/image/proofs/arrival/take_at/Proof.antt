@@ -10,8 +10,8 @@ use borrow.Rule.Slice.PartMut.{same-len-mid}
 use Rattle.records.specs.declared.Session.{Session}
 use Rattle.session.specs.Calls.{arrived}
 use Rattle.session.proofs.Outcomes.{side-tested}
-use Rattle.records.specs.Sound.{refusalOf}
-use Rattle.steps.specs.Takes.{sideIf, tookIn}
+use Rattle.records.specs.Sound.{refusalOf, sideIf}
+use Rattle.steps.specs.Takes.{tookIn}
 use Rattle.image.specs.Image.{isSet, part}
 use Rattle.image.specs.Lent.{arrivedAt}
 use Rattle.image.proofs.Arrivals.{Left, lent, lent-size, lent-all, left, free-image, free-size, free-fields, free-counts}

@@ -3,9 +3,8 @@ use borrow.Author.Needs.{needs}
 use mathlib.Core.Path.{_≡_, refl, sym, _∙_}
 use mathlib.Core.Bool.{true}
 use mathlib.Core.Option.{none}
-use Rattle.records.specs.Sound.{refusalOf, refusalBy}
+use Rattle.records.specs.Sound.{refusalOf, refusalBy, Counted}
 use Rattle.records.proofs.Refusals.{unknown, by-nothing}
-use Rattle.steps.specs.Takes.{Counted}
 use Rattle.image.specs.Image.{controlIn, isImage, sessionOf}
 use Rattle.image.specs.Lent.{endedAt}
 use Rattle.image.proofs.Reading.{image-size, refused-no-image, refused-image}

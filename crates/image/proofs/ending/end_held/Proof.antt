@@ -5,8 +5,7 @@ use mathlib.Core.List.{List}
 use Prim.Native.Nat.{ℕ, _+_, _≤_}
 use native.Mathlib.Omega.{arith}
 use Rattle.rules.specs.Answers.{Side}
-use Rattle.records.specs.Sound.{directionOf}
-use Rattle.steps.specs.Takes.{sideIf}
+use Rattle.records.specs.Sound.{directionOf, sideIf}
 use Rattle.image.specs.Image.{controlIn}
 use Rattle.image.proofs.Again.{image-long}
 use Rattle.image.proofs.Changing.{fields-low}

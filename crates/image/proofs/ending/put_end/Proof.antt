@@ -3,7 +3,7 @@ use borrow.Author.Needs.{needs}
 use mathlib.Core.Path.{_∙_}
 use lib.ListN.{length-set}
 use native.Mathlib.Omega.{arith}
-use Rattle.steps.specs.Takes.{sideIf}
+use Rattle.records.specs.Sound.{sideIf}
 use Rattle.image.proofs.Again.{image-long}
 use Rattle.image.proofs.Changing.{fields-low, end-stored}
 use Rattle.image.proofs.ending.put_end.Statement.{statement}

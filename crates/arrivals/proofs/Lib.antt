@@ -1,0 +1,10 @@
+-- Laws that the proofs of this crate's functions, and of those above it, cite.
+pub mod Going
+mod Single
+mod Runs
+mod Parts
+mod LineEnds
+mod LentRuns
+mod Keeping
+mod PlainLines
+mod PlainReplies

@@ -1,0 +1,243 @@
+-- Plain lines of the client, as runs of what is lent: the octets that it holds, the LF behind them, and one line after another.
+use mathlib.Core.Path.{_≡_, refl, sym, ap, subst, _∙_}
+use mathlib.Core.Bool.{true, false}
+use mathlib.Core.List.{List, [], _∷_, _++_}
+use Prim.Native.Nat.{ℕ, suc, _+_, _-_, _≤_, _<_}
+use native.Mathlib.Numerals.{add-one}
+use native.Mathlib.Omega.{arith}
+use lib.ListN.{length, take, drop, set, getD, length-append, length-drop, length-set}
+use lib.Seq.{length-take-le, take-take, drop-cons}
+use borrow.Author.Tests.{lt-leb}
+use borrow.Rule.Slice.PartMut.{putMid}
+use Rattle.rules.specs.Octets.{lf, every, isNot}
+use Rattle.rules.specs.Answers.{client, isQueueFull}
+use Rattle.octets.proofs.Runs.{part-length}
+use Rattle.output.specs.Buffer.{placed, placeAfter}
+use Rattle.output.proofs.Placing.{length-placed, take-placed, after-fits, nothing-placed}
+use Rattle.places.specs.declared.Place.{Place}
+use Rattle.places.specs.declared.Direction.{Direction}
+use Rattle.places.specs.Places.{at}
+use Rattle.commands.specs.Plain.{isPlain}
+use Rattle.records.specs.declared.Control.{Control}
+use Rattle.records.specs.Controls.{withClient}
+use Rattle.steps.specs.declared.Fixed.{Fixed}
+use Rattle.steps.specs.declared.Written.{Written}
+use Rattle.arrivals.specs.declared.plain.Said.{Said}
+use Rattle.steps.specs.Steps.{State}
+use Rattle.steps.specs.Takes.{Core, takes, commandIn, addressesLent, kindsLent, linesLent, stateFrom, stateLent, coreFrom, coreLent}
+use Rattle.arrivals.specs.Runs.{Ran}
+use Rattle.queue.specs.Kinds.{isStill}
+use Rattle.arrivals.specs.PlainRuns.{saidControl, SaidPlain}
+use Rattle.records.proofs.Limits.{full-by-count}
+use Rattle.arrivals.proofs.Runs.{Open, one-taken}
+use Rattle.arrivals.proofs.Single.{stepTo}
+use Rattle.arrivals.proofs.Parts.{ran-none, ran-then, client-held}
+use Rattle.arrivals.proofs.LineEnds.{client-line, still-settled, pushed-still}
+use Rattle.steps.proofs.Lent.{put-part, put-size, kinds-size, kinds-back, kinds-addresses, kind-stored, command-back, command-kinds, command-addresses}
+
+-- ---- no line, and lines behind others
+
+pub said-none : (l : List ℕ) (i held owed : ℕ) (lent out : List ℕ) (at : ℕ) → i ≤ length l → held ≤ 511 → owed ≤ 16 → at ≤ length out
+    → isStill (kindsLent lent) 0 owed ≡ true
+    → SaidPlain l i held owed lent out at (record { more = false; taken = i; held = held; owed = owed; at = at }) lent out
+said-none l i held owed lent out at inside most count room still =
+    record {
+      ran = λ f c toClient n h.
+          ran-none f client l (coreLent (saidControl c held owed) lent out toClient (record { server = at; client = n })) i inside room h;
+      held = most;
+      owed = count;
+      written = room;
+      still = still;
+      addresses = refl;
+    }
+
+module _ {l : List ℕ} {i held owed : ℕ} {lent out : List ℕ} {at : ℕ} {r : Said} {lent′ out′ : List ℕ} where
+  pub said-then : {q : Said} {lent″ out″ : List ℕ} → SaidPlain l i held owed lent out at r lent′ out′
+      → SaidPlain l (r .taken) (r .held) (r .owed) lent′ out′ (r .at) q lent″ out″ → SaidPlain l i held owed lent out at q lent″ out″
+  said-then {q} {lent″} {out″} one two =
+      record {
+        ran = λ f c toClient n h.
+            ran-then f client l (coreLent (saidControl c held owed) lent out toClient (record { server = at; client = n }))
+            (coreLent (saidControl c (r .held) (r .owed)) lent′ out′ toClient (record { server = r .at; client = n }))
+            (coreLent (saidControl c (q .held) (q .owed)) lent″ out″ toClient (record { server = q .at; client = n }))
+            i (r .taken) (q .taken) (one .ran f c toClient n h) (two .ran f c toClient n h);
+        held = two .held;
+        owed = two .owed;
+        written = two .written;
+        still = two .still;
+        addresses = two .addresses ∙ one .addresses;
+      }
+
+  -- whether another may follow is no part of it
+  pub said-so : SaidPlain l i held owed lent out at r lent′ out′
+      → SaidPlain l i held owed lent out at (record { more = false; taken = r .taken; held = r .held; owed = r .owed; at = r .at }) lent′ out′
+  said-so s =
+      record { ran = s .ran; held = s .held; owed = s .owed; written = s .written; still = s .still; addresses = s .addresses }
+
+  -- any session has the same end of the octets taken
+  pub said-inside : SaidPlain l i held owed lent out at r lent′ out′ → r .taken ≤ length l
+  said-inside s =
+      let start : Direction = record { place = Place.Holding; held = 0 } in
+      s .ran (record { client = []; mapped = []; supported = false })
+      (record {
+        switches = record { epsv = false; eprt = false };
+        client = start;
+        server = start;
+        owed = 0;
+        unfinished = false;
+      })
+      [] 0 (omega arith) .inside
+
+-- of a whole control in which the client holds its octets
+module _ (c : Control) {l : List ℕ} {i : ℕ} {lent out : List ℕ} (w : Written) {r : Said} {lent′ out′ : List ℕ} where
+  pub said-ran : c .client .place ≡ Place.Holding → SaidPlain l i (c .client .held) (c .owed) lent out (w .server) r lent′ out′
+      → {after : Control} → after ≡ saidControl c (r .held) (r .owed) → (f : Fixed) (toClient : List ℕ) → w .client ≤ length toClient
+      → Ran f client l (coreLent c lent out toClient w) i (coreLent after lent′ out′ toClient (record { server = r .at; client = w .client })) (r .taken)
+  said-ran e s built f toClient h =
+      let same : saidControl c (c .client .held) (c .owed) ≡ c = λ t. withClient c (c .switches) (at (sym e t) (c .client .held)) (c .owed) in
+      let then : Control → Core = λ d. coreLent d lent′ out′ toClient (record { server = r .at; client = w .client }) in
+      subst (λ (d : Control). Ran f client l (coreLent c lent out toClient w) i (then d) (r .taken)) (sym built)
+      (subst (λ (d : Control). Ran f client l (coreLent d lent out toClient w) i (then (saidControl c (r .held) (r .owed))) (r .taken)) same
+      (s .ran f c toClient (w .client) h))
+
+-- ---- the octets that are held
+
+few-open : (owed : ℕ) → owed < 16 → isQueueFull client false owed ≡ false
+few-open owed h = sym (full-by-count true false owed refl refl) ∙ lt-leb 16 owed h
+
+module _ (l : List ℕ) {i j : ℕ} (held : ℕ) (lent : List ℕ) {p : List ℕ} (all : length lent ≡ 1058) (h : i ≤ j) (g : j ≤ length l)
+    (room : held + (j - i) ≤ length (commandIn (linesLent lent)))
+    (line : p ≡ placed (commandIn (linesLent lent)) held (take (j - i) (drop i l))) where
+  abbrev xs : List ℕ
+  xs = take (j - i) (drop i l)
+
+  abbrev before : List ℕ
+  before = commandIn (linesLent lent)
+
+  before-size : length before ≡ 511
+  before-size = length-take-le 511 (drop 36 lent) (omega (arith, all, length-drop 36 lent))
+
+  xs-fit : held + length xs ≤ length before
+  xs-fit = omega (arith, part-length l i j h g, room)
+
+  line-size : length p ≡ 511
+  line-size = ap (λ (x : List ℕ). length x) line ∙ (length-placed before held xs xs-fit ∙ before-size)
+
+  pub lent-size : length (putMid 36 511 lent p) ≡ 1058
+  lent-size = put-size 36 511 lent p (omega (arith, all)) line-size ∙ all
+
+  -- a line of which none was held before is all in the arrival
+  pub all-arrived : held ≡ 0 → xs ≡ take (36 + (held + (j - i)) - 36) (drop 36 (putMid 36 511 lent p))
+  all-arrived e =
+      let now = drop 36 (putMid 36 511 lent p) in
+      let count : 36 + (held + (j - i)) - 36 ≡ held + length xs = omega (arith, part-length l i j h g) in
+      let part = put-part 36 511 lent p (omega (arith, all)) line-size in
+      sym (ap (λ (n : ℕ). take n now) count
+      ∙ (sym (take-take (held + length xs) 511 now (omega (arith, xs-fit, before-size)))
+      ∙ (ap (take (held + length xs)) (part ∙ line)
+      ∙ (take-placed before held xs xs-fit ∙ ap (λ (n : ℕ). take n before ++ xs) e))))
+
+  -- the octets up to an LF, put behind those that are held
+  pub line-held : (owed : ℕ) (out : List ℕ) (at : ℕ) → every (isNot lf) xs ≡ true → owed < 16 → isStill (kindsLent lent) 0 owed ≡ true
+      → at ≤ length out
+      → SaidPlain l i held owed lent out at (record { more = false; taken = j; held = held + (j - i); owed = owed; at = at })
+      (putMid 36 511 lent p) out
+  line-held owed out at none few still inside =
+      let n = held + (j - i) in
+      let most : n ≤ 511 = omega (arith, room, before-size) in
+      record {
+        ran = λ f c toClient m fits.
+            let w : Written = record { server = at; client = m } in
+            let s = stateLent (saidControl c held owed) lent in
+            let settled = still-settled s still in
+            subst (λ (t : State). Ran f client l (coreFrom s out toClient w) i (coreFrom t out toClient w) j)
+            (sym (command-back lent all p line-size (saidControl c n owed)))
+            (client-held f l s out toClient w i j h g n p inside fits settled refl (few-open owed few) none most before-size refl line);
+        held = most;
+        owed = omega arith;
+        written = inside;
+        still = subst (λ (kinds : List ℕ). isStill kinds 0 owed ≡ true) (sym (command-kinds lent all p line-size)) still;
+        addresses = command-addresses lent all p line-size;
+      }
+
+-- ---- the LF of a plain line
+
+-- as a run of one octet: its text is the line, and a plain kind is owed
+module _ (f : Fixed) (l : List ℕ) (s : State) (sb cb : List ℕ) (w : Written) (j next : ℕ) (out : List ℕ) where
+  abbrev text : List ℕ
+  text = take (s .control .client .held) (s .command) ++ (lf ∷ [])
+
+  abbrev ended : State
+  ended =
+      stateFrom (saidControl (s .control) 0 (s .control .owed + 1)) (s .command) (s .reply) (set (s .kinds) (s .control .owed) 0)
+
+  client-ended : j < length l → getD l j 0 ≡ lf → s .control .client .place ≡ Place.Holding → Open client s
+      → isStill (s .kinds) 0 (s .control .owed) ≡ true → isPlain (take (s .control .client .held) (s .command)) ≡ true
+      → s .control .owed < 16 → length (s .kinds) ≡ 16 → w .server + length text ≤ length sb → w .client ≤ length cb
+      → next ≡ placeAfter sb (w .server) text → out ≡ placed sb (w .server) text
+      → Ran f client l (coreFrom s sb cb w) j (coreFrom ended out cb (record { server = next; client = w .client })) (j + 1)
+  client-ended h e place queue still plain few size room other en eo =
+      let x = text in
+      let step = client-line f s place still plain in
+      let at = en ∙ after-fits sb (w .server) x room in
+      let kept = nothing-placed cb (w .client) .1 in
+      let wc : w .client ≡ w .client + 0 = omega arith in
+      record {
+        toServer = x;
+        toClient = [];
+        forward = omega arith;
+        inside = omega arith;
+        server = room;
+        client = omega arith;
+        rest = λ m n a b.
+            let r = takes f client ended (drop (j + 1) l) (m - length x) (n - 0) in
+            let count : suc (r .taken) ≡ j + 1 - j + r .taken = omega arith in
+            (λ t. takes f client s (drop-cons l j 0 h t) m n)
+            ∙ ((λ t. takes f client s (e t ∷ drop (sym (add-one j) t) l) m n)
+            ∙ (one-taken f client s lf (drop (j + 1) l) m n (stepTo ended x []) step queue a b
+            ∙ (λ t. record { answer = r .answer; taken = count t; toServer = x ++ r .toServer; toClient = r .toClient; state = r .state })));
+        core = λ t. coreFrom ended (eo t) (kept t) (record { server = at t; client = wc t });
+        counted = λ c. record { owed = omega arith; command = omega arith; reply = c .reply };
+      }
+
+-- the same over what is lent, into which the code stores the kind
+module _ (l : List ℕ) {j : ℕ} (n owed : ℕ) (lent : List ℕ) (all : length lent ≡ 1058) (out : List ℕ) (at : ℕ) {next : ℕ} {out′ line : List ℕ} where
+  pub line-ended : j < length l → getD l j 0 ≡ lf → n ≤ 511 → owed < 16 → isStill (kindsLent lent) 0 owed ≡ true → at ≤ length out
+      → n < length out - at → line ≡ take (36 + n - 36) (drop 36 lent) → isPlain line ≡ true
+      → next ≡ placeAfter out at (line ++ (lf ∷ [])) → out′ ≡ placed out at (line ++ (lf ∷ []))
+      → SaidPlain l j n owed lent out at (record { more = true; taken = j + 1; held = 0; owed = owed + 1; at = next })
+      (set lent (20 + owed) 0) out′
+  line-ended h e most few still inside room el plain en eo =
+      let kinds = kinds-size lent all in
+      let p = set (kindsLent lent) owed 0 in
+      let size : length p ≡ 16 = length-set (kindsLent lent) owed 0 ∙ kinds in
+      let back = kind-stored lent all owed 0 few in
+      let count : 36 + n - 36 ≡ n = omega arith in
+      let same : line ≡ take n (commandIn (linesLent lent)) =
+      el ∙ (ap (λ (k : ℕ). take k (drop 36 lent)) count ∙ sym (take-take n 511 (drop 36 lent) most)) in
+      let short : length line ≡ n =
+      ap (λ (x : List ℕ). length x) (el ∙ ap (λ (k : ℕ). take k (drop 36 lent)) count)
+      ∙ length-take-le n (drop 36 lent) (omega (arith, all, length-drop 36 lent)) in
+      let fits : at + length (line ++ (lf ∷ [])) ≤ length out = omega (arith, length-append line (lf ∷ [])) in
+      let end = en ∙ after-fits out at (line ++ (lf ∷ [])) fits in
+      let whole = ap (λ (x : List ℕ). length x) eo ∙ length-placed out at (line ++ (lf ∷ [])) fits in
+      record {
+        ran = λ f c toClient m other.
+            let w : Written = record { server = at; client = m } in
+            let s = stateLent (saidControl c n owed) lent in
+            let after : State = stateLent (saidControl c 0 (owed + 1)) (set lent (20 + owed) 0) in
+            let path : after ≡ ended f l s out toClient w j next out′ =
+            ap (stateLent (saidControl c 0 (owed + 1))) back ∙ kinds-back lent all p size (saidControl c 0 (owed + 1)) in
+            subst (λ (t : State). Ran f client l (coreFrom s out toClient w) j (coreFrom t out′ toClient (record { server = next; client = m })) (j + 1))
+            (sym path)
+            (client-ended f l s out toClient w j next out′ h e refl (few-open owed few) still
+            (subst (λ (x : List ℕ). isPlain x ≡ true) same plain) few kinds
+            (subst (λ (x : List ℕ). at + length (x ++ (lf ∷ [])) ≤ length out) same fits) other
+            (en ∙ ap (λ (x : List ℕ). placeAfter out at (x ++ (lf ∷ []))) same) (eo ∙ ap (λ (x : List ℕ). placed out at (x ++ (lf ∷ []))) same));
+        held = omega arith;
+        owed = omega arith;
+        written = omega arith;
+        still = subst (λ (x : List ℕ). isStill x 0 (owed + 1) ≡ true)
+            (sym (ap kindsLent back ∙ put-part 20 16 lent p (omega (arith, all)) size)) (pushed-still (kindsLent lent) owed still);
+        addresses = ap addressesLent back ∙ kinds-addresses lent all p size;
+      }

@@ -1,0 +1,285 @@
+-- Octets are held (`reply-held`); behind them the LF of a plain line (`reply-ended`), or nothing.
+use mathlib.Core.Path.{_≡_, sym, ap, _∙_}
+use mathlib.Core.Bool.{true, false, false≢true}
+use mathlib.Core.List.{List}
+use Prim.Native.Nat.{ℕ, _+_, _-_, _≤_}
+use native.Mathlib.Omega.{arith}
+use lib.ListN.{length, take, drop}
+use borrow.Rule.Slice.PartMut.{putMid}
+use Rattle.rules.specs.Replies.{replyLine}
+use Rattle.queue.proofs.Shifting.{shifted-in}
+use Rattle.queue.proofs.Listed.{length-shifted}
+use Rattle.steps.specs.Takes.{kindsLent}
+use Rattle.arrivals.specs.PlainRuns.{AnsweredPlain}
+use Rattle.steps.proofs.Lent.{put-size, kinds-size}
+use Rattle.arrivals.proofs.PlainReplies.{removes-within, answered-then, held-size, held-text, reply-held, reply-ended}
+use borrow.Author.Needs.{needs}
+use Rattle.arrivals.proofs.plain.server_line.Statement.{statement}
+use Rattle.arrivals.proofs.plain.server_line.Tie as tie
+
+-- the octets up to j, held
+module _ (c : tie.After-hold-run) where
+  abbrev octets : List ℕ
+  octets = c .before .before .before .before .before .args .octets .now
+
+  abbrev lent : List ℕ
+  lent = c .before .before .before .before .before .args .lent .now
+
+  abbrev i : ℕ
+  i = c .before .before .before .before .before .args .i
+
+  abbrev held : ℕ
+  held = c .before .before .before .before .before .args .held
+
+  abbrev owed : ℕ
+  owed = c .before .before .before .before .before .args .owed
+
+  abbrev j : ℕ
+  j = c .hold-run .result
+
+  abbrev part : List ℕ
+  part = c .hold-run .last .1 .1 .0
+
+  abbrev after : List ℕ
+  after = putMid 547 511 lent part
+
+  first : AnsweredPlain octets i held owed (c .before .before .before .before .before .args .unfinished) lent
+      (c .before .before .before .before .before .args .to-client .now) (c .before .before .before .before .before .args .at)
+      (record {
+        more = false;
+        taken = j;
+        held = held + (j - i);
+        owed = owed;
+        unfinished = c .before .before .before .before .before .args .unfinished;
+        at = c .before .before .before .before .before .args .at;
+      })
+      after (c .before .before .before .before .before .args .to-client .now)
+  first =
+      let pre = c .before .before .before .before .before .pre in
+      let run = c .hold-run .ensures in
+      reply-held octets i j held lent part (pre .1 .1) (run .0 .0) (run .0 .1) (run .0 .2) (run .1 .1) owed _ _ _ (pre .0 .1) (pre .1 .2) (pre .0 .2) (run .1 .0)
+
+  read : held ≡ 0 → take (j - i) (drop i octets) ≡ take (547 + (held + (j - i)) - 547) (drop 547 after)
+  read =
+      let run = c .hold-run .ensures in
+      held-text octets i j held lent part (c .before .before .before .before .before .pre .1 .1) (run .0 .0) (run .0 .1) (run .0 .2) (run .1 .1)
+
+  all : length after ≡ 1058
+  all =
+      let run = c .hold-run .ensures in
+      held-size octets i j held lent part (c .before .before .before .before .before .pre .1 .1) (run .0 .0) (run .0 .1) (run .0 .2) (run .1 .1)
+
+-- no more kinds are removed than are owed
+few : (c : tie.After-removed) → c .removed .result ≤ owed (c .before .before .before .before .before .before .before .before .before .before .before)
+few c = omega (arith, c .removed .ensures, removes-within (c .before .reply-line .result) (owed (c .before .before .before .before .before .before .before .before .before .before .before)))
+
+sub-hold-run : tie.Need-sub-hold-run
+sub-hold-run c = search needs
+
+part-hold-run-start : tie.Need-part-hold-run-start
+part-hold-run-start c = search needs
+
+part-hold-run-end : tie.Need-part-hold-run-end
+part-hold-run-end c = search needs
+
+hold-run-requires : tie.Need-hold-run-requires
+hold-run-requires c κs = search needs
+
+sub-n : tie.Need-sub-n
+sub-n c = search needs
+
+add-n : tie.Need-add-n
+add-n c = search needs
+
+sub-may-end : tie.Need-sub-may-end
+sub-may-end c = search needs
+
+may-end-requires : tie.Need-may-end-requires
+may-end-requires c κs = search needs
+
+sub-text : tie.Need-sub-text
+sub-text c = search needs
+
+part-text-start : tie.Need-part-text-start
+part-text-start c = search needs
+
+part-text-end : tie.Need-part-text-end
+part-text-end c = search needs
+
+add-text : tie.Need-add-text
+add-text c = search needs
+
+sub-text-2 : tie.Need-sub-text-2
+sub-text-2 c = search needs
+
+part-text-start-2 : tie.Need-part-text-start-2
+part-text-start-2 c = search needs
+
+part-text-end-2 : tie.Need-part-text-end-2
+part-text-end-2 c = search needs
+
+text-requires : tie.Need-text-requires
+text-requires c κs = read (c .before .before .before .before .before .before .before)
+
+content-requires : tie.Need-content-requires
+content-requires c κs = search needs
+
+reply-line-requires : tie.Need-reply-line-requires
+reply-line-requires c κs = search needs
+
+removed-requires : tie.Need-removed-requires
+removed-requires c κs = search needs
+
+sub-keeps-still : tie.Need-sub-keeps-still
+sub-keeps-still c = search needs
+
+part-keeps-still-start : tie.Need-part-keeps-still-start
+part-keeps-still-start c = search needs
+
+part-keeps-still-end : tie.Need-part-keeps-still-end
+part-keeps-still-end c = search needs
+
+keeps-still-requires : tie.Need-keeps-still-requires
+keeps-still-requires c κs = search needs
+
+sub-text-3 : tie.Need-sub-text-3
+sub-text-3 c = search needs
+
+part-text-start-3 : tie.Need-part-text-start-3
+part-text-start-3 c = search needs
+
+part-text-end-3 : tie.Need-part-text-end-3
+part-text-end-3 c = search needs
+
+add-text-2 : tie.Need-add-text-2
+add-text-2 c = search needs
+
+sub-text-4 : tie.Need-sub-text-4
+sub-text-4 c = search needs
+
+part-text-start-4 : tie.Need-part-text-start-4
+part-text-start-4 c = search needs
+
+part-text-end-4 : tie.Need-part-text-end-4
+part-text-end-4 c = search needs
+
+text-requires-2 : tie.Need-text-requires-2
+text-requires-2 c κs = read (c .before .before .before .before .before .before .before .before .before .before .before .before .before .before .before .before .before .before)
+
+put-line-requires : tie.Need-put-line-requires
+put-line-requires c κs = search needs
+
+sub-shift : tie.Need-sub-shift
+sub-shift c = search needs
+
+part-shift-start : tie.Need-part-shift-start
+part-shift-start c = search needs
+
+part-shift-end : tie.Need-part-shift-end
+part-shift-end c = omega (arith, all (c .before .before .before .before .before .before .before .before .before .before .before .before .before .before .before .before .before .before .before .before .before .before .before))
+
+add-t42 : tie.Need-add-t42
+add-t42 c =
+    let size = c .before .before .before .before .before .before .before .before .before .before .before .before .before .before .before .before .before .before .before .before .before .before .before .before .before .before .before .before .before .before .before .before .good .1 .1 .1 .0 in
+    let more = c .before .before .before .before .before .before .before .before .before .before .before .before .before .before .before .before .before .before .before .before .before .before .before .before .may-end .ensures (c .before .before .before .before .before .before .before .before .before .before .before .before .before .before .before .before .before .before .before .before .before .before .before .if1 .taken) .0 in
+    search needs
+
+sub-t37 : tie.Need-sub-t37
+sub-t37 c = few (c .before .before .before .before .before .before .before .before .before .before .before .before .before .before .before .before)
+
+goes-on-requires : tie.Need-goes-on-requires
+goes-on-requires c κs = search needs
+
+same-length : tie.Need-same-length
+same-length c =
+    let run = c .before .before .before .before .before .before .before .before .before .before .before .before .before .before .before .before .before .before .before .before .before .before .before .before .before .before .before .before in
+    let size = kinds-size (after run) (all run) in
+    let moved = c .before .before .before .shift .ensures ∙ shifted-in (kindsLent (after run)) _ _ (omega (arith, size, first run .owed)) in
+    put-size 20 16 (after run) (c .before .before .before .shift .last .0) (omega (arith, all run))
+    (ap length moved ∙ (length-shifted (kindsLent (after run)) _ _ (omega (arith, size, first run .owed)) ∙ size))
+    ∙ (all run ∙ sym (run .before .before .before .before .before .pre .1 .1))
+
+same-length-2 : tie.Need-same-length-2
+same-length-2 c = search needs
+
+returns : tie.Need-returns
+returns c =
+    let run = c .before .before .before .before .before .before .before .before .before .before .before .before .before .before .before .before .before .before .before .before .before .before .before .before .before .before .before .before in
+    let a = run .before .before .before .before .before .args in
+    let ends = c .before .before .before .before .before .before .before .before .before .before .before .before .before .before .before .before .before .before .before .before .before .before .before .before .before .may-end .ensures (c .before .before .before .before .before .before .before .before .before .before .before .before .before .before .before .before .before .before .before .before .before .before .before .before .if1 .taken) in
+    let reply = c .before .before .before .before .before .before .before .before .before .before .before .before .before .before .before .before .before .before .reply-line in
+    let keeps = sym (c .before .before .before .before .before .before .before .before .before .before .before .before .before .before .keeps-still .ensures) ∙ c .before .before .before .before .before .before .before .before .before .before .before .before .before .if2 .taken in
+    let put = c .before .before .before .before .before .before .before .put-line in
+    let moved = c .before .before .before .shift .ensures
+    ∙ shifted-in (kindsLent (after run)) _ _ (omega (arith, kinds-size (after run) (all run), first run .owed)) in
+    let over = run .hold-run .ensures .0 .0 in (
+      answered-then (octets run) (i run) (held run) (owed run) (a .unfinished) (lent run) (a .to-client .now) (a .at) _ _ (after run) (a .to-client .now) _ _ (first run)
+          (reply-ended (octets run) (j run) (held run + (j run - i run)) (owed run) (a .unfinished) (after run) _ (a .to-client .now) _ (a .at) _ _ _ (all run)
+          (first run .held) (first run .owed) (first run .still) (ends .0) (ends .1) (ends .2) _ _ (c .before .before .before .before .before .before .before .before .before .before .before .before .before .before .before .before .before .before .before .before .text .ensures) (c .before .before .before .before .before .before .before .before .before .text2 .ensures)
+          (reply .result) (reply .ensures ∙ ap replyLine (c .before .before .before .before .before .before .before .before .before .before .before .before .before .before .before .before .before .before .before .content .ensures)) (c .before .before .before .before .before .before .before .before .before .before .before .before .before .before .before .before .before .removed .ensures) (c .goes-on .ensures) keeps
+          (put .ensures .0) (put .ensures .1) moved),
+      λ _. omega arith,
+    )
+
+same-length-3 : tie.Need-same-length-3
+same-length-3 c = search needs
+
+returns-2 : tie.Need-returns-2
+returns-2 c = (first (c .before .before .before .before .before .before .before .before .before .before .before .before .before .before .before), λ e. absurd (false≢true e))
+
+same-length-4 : tie.Need-same-length-4
+same-length-4 c = search needs
+
+returns-3 : tie.Need-returns-3
+returns-3 c = (first (c .before .before .before .before), λ e. absurd (false≢true e))
+
+pub server-line-spec : {M : Type 1} → statement M
+server-line-spec =
+    tie.close
+    (tie.spec
+    sub-hold-run
+    part-hold-run-start
+    part-hold-run-end
+    hold-run-requires
+    sub-n
+    add-n
+    sub-may-end
+    may-end-requires
+    sub-text
+    part-text-start
+    part-text-end
+    add-text
+    sub-text-2
+    part-text-start-2
+    part-text-end-2
+    text-requires
+    content-requires
+    reply-line-requires
+    removed-requires
+    sub-keeps-still
+    part-keeps-still-start
+    part-keeps-still-end
+    keeps-still-requires
+    sub-text-3
+    part-text-start-3
+    part-text-end-3
+    add-text-2
+    sub-text-4
+    part-text-start-4
+    part-text-end-4
+    text-requires-2
+    put-line-requires
+    sub-shift
+    part-shift-start
+    part-shift-end
+    (λ c κs. search needs)
+    add-t42
+    sub-t37
+    goes-on-requires
+    same-length
+    same-length-2
+    returns
+    same-length-3
+    returns-2
+    same-length-4
+    returns-3)

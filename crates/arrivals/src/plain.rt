@@ -1,0 +1,433 @@
+// Plain lines: they pass as they are, and nothing leaves the queue behind them but the kind that a reply is for. Most
+// lines are such. They are taken here with a few numbers in hand; any other goes the way of every octet. A plain line of
+// the client owes a plain kind, but others do too: a translated EPRT is no plain line.
+ghost use mathlib.Core.Path.{_≡_};
+ghost use mathlib.Core.Bool.{true, false};
+ghost use mathlib.Core.List.{List};
+ghost use Prim.Native.Nat.{ℕ, _+_, _-_, _≤_, _<_};
+ghost use lib.ListN.{length, getD};
+ghost use Rattle.rules.specs.Octets.{every, lf};
+ghost use Rattle.rules.specs.Replies.{leavesUnfinished};
+ghost use Rattle.rules.specs.Answers.{client, server};
+ghost use Rattle.steps.specs.declared.Fixed.{Fixed};
+ghost use Rattle.records.specs.Sound.{sideIf, Counted};
+ghost use Rattle.steps.specs.Takes.{addressesLent, coreLent, kindsLent};
+ghost use Rattle.steps.specs.Core.{Bounded};
+ghost use Rattle.arrivals.specs.Runs.{Ran};
+ghost use Rattle.queue.specs.Kinds.{isStill};
+ghost use Rattle.arrivals.specs.PlainRuns.{isPlainFirst, plainRemoves, keepsStill, SaidPlain, AnsweredPlain};
+use crate::running::Part;
+use crate::running::hold_run;
+use gives::put_line;
+use places::Direction;
+use places::LF;
+use places::Place;
+use places::is_holding;
+use queue::is_still;
+use queue::shift;
+use records::Control;
+use records::with_client;
+use records::with_server;
+use rules::ReplyLine;
+use steps::COMMAND;
+use steps::KINDS;
+use steps::LENT;
+use steps::REPLY;
+use steps::Written;
+
+// How far one plain line of the client, or several, reach, and whether another may follow; and how many octets are held,
+// replies owed and octets written then.
+pub struct Said {
+    pub more: bool,
+    pub taken: usize,
+    pub held: usize,
+    pub owed: usize,
+    pub at: usize,
+}
+
+// The same of the server, and whether its reply is unfinished.
+pub struct Answered {
+    pub more: bool,
+    pub taken: usize,
+    pub held: usize,
+    pub owed: usize,
+    pub unfinished: bool,
+    pub at: usize,
+}
+
+// A line's octets, which are all in the arrival where none was held before. Read there, they need
+// not wait for the store into the array.
+fn text<'a>(held: usize, part: &'a [u8], line: &'a [u8]) -> &'a [u8]
+    requires { ⌜ (held ≡ 0 → now part ≡ now line) ⌝ }
+    ensures { λ r. ⌜ now r ≡ now (line .entry) ⌝ }
+{
+    if held == 0 {
+        return part;
+    }
+    line
+}
+
+// An LF stands at j, and there is room for it and the n octets before it.
+fn may_end(octets: &[u8], j: usize, n: usize, room: usize) -> bool
+    ensures { λ r. ⌜ (r ≡ true → (j < length (now (octets .entry))) × (getD (now (octets .entry)) j 0 ≡ lf) × (n < room)) ⌝ }
+{
+    if octets.len() <= j {
+        return false;
+    }
+    if octets[j] != LF {
+        return false;
+    }
+    n < room
+}
+
+// The octets of a client line from i on, and its end if it is plain.
+fn client_line(
+    held: usize,
+    owed: usize,
+    octets: &[u8],
+    i: usize,
+    lent: &mut [u8],
+    to_server: &mut [u8],
+    at: usize,
+) -> Said
+    requires { ⌜ (held ≤ 511) × (owed < 16) × (isStill (kindsLent (now lent)) 0 owed ≡ true) ⌝ }
+    requires { ⌜ (i ≤ length (now octets)) × (length (now lent) ≡ 1058) × (at ≤ length (now «to_server»)) ⌝ }
+    ensures ran { λ r.
+        ⌜ SaidPlain (now (octets .entry)) i held owed (now (lent .entry)) (now («to_server» .entry)) at r
+        (now (lent .exit)) (now («to_server» .exit)) ⌝ }
+    ensures more { λ r. ⌜ (r .more ≡ true → i < r .taken) ⌝ }
+{
+    let j = hold_run(octets, i, &mut lent[COMMAND..REPLY], held);
+    let n = held + (j - i);
+    let line = text(held, &octets[i..j], &lent[COMMAND..COMMAND + n]);
+    if may_end(octets, j, n, to_server.len() - at) {
+        if commands::is_plain(line) {
+            let next = put_line(to_server, at, line, LF);
+            lent[KINDS + owed] = 0;
+            return Said {
+                more: true,
+                taken: j + 1,
+                held: 0,
+                owed: owed + 1,
+                at: next,
+            };
+        }
+    }
+    Said {
+        more: false,
+        taken: j,
+        held: n,
+        owed,
+        at,
+    }
+}
+
+// Plain lines of a client that holds its octets, from i on, with `start` octets held.
+fn client_lines(
+    start: usize,
+    before: usize,
+    octets: &[u8],
+    from: usize,
+    lent: &mut [u8],
+    to_server: &mut [u8],
+    first: usize,
+) -> Said
+    requires { ⌜ (start ≤ 511) × (before ≤ 16) × (isStill (kindsLent (now lent)) 0 before ≡ true) ⌝ }
+    requires { ⌜ (from ≤ length (now octets)) × (length (now lent) ≡ 1058) × (first ≤ length (now «to_server»)) ⌝ }
+    ensures { λ r.
+        ⌜ SaidPlain (now (octets .entry)) from start before (now (lent .entry)) (now («to_server» .entry)) first r
+        (now (lent .exit)) (now («to_server» .exit)) ⌝ }
+{
+    let mut held = start;
+    let mut owed = before;
+    let mut at = first;
+    let mut i = from;
+    while i < octets.len() && owed < 16 {
+        let said = client_line(held, owed, octets, i, lent, to_server, at);
+        if !said.more {
+            return said;
+        }
+        held = said.held;
+        owed = said.owed;
+        at = said.at;
+        i = said.taken;
+    }
+    Said {
+        more: false,
+        taken: i,
+        held,
+        owed,
+        at,
+    }
+}
+
+// How many kinds a reply's line removes, where the first owed is none of the gateway's own answers.
+fn removed(reply: ReplyLine, owed: usize) -> usize
+    ensures { λ r. ⌜ r ≡ plainRemoves reply owed ⌝ }
+{
+    match reply {
+        ReplyLine::GoesOn => 0,
+        ReplyLine::Preliminary => 0,
+        ReplyLine::Final => if owed == 0 { 0 } else { 1 },
+    }
+}
+
+fn goes_on(reply: ReplyLine) -> bool
+    ensures { λ r. ⌜ r ≡ leavesUnfinished reply ⌝ }
+{
+    match reply {
+        ReplyLine::GoesOn => true,
+        ReplyLine::Preliminary => false,
+        ReplyLine::Final => false,
+    }
+}
+
+// In a still queue: no kind is removed; or a plain one is, or the reply began before, and behind it the queue is still.
+fn keeps_still(kinds: &[u8], unfinished: bool, removes: usize, owed: usize) -> bool
+    ensures { λ r. ⌜ r ≡ keepsStill (now (kinds .entry)) unfinished removes owed ⌝ }
+{
+    if removes == 0 {
+        return true;
+    }
+    if !unfinished {
+        if !is_plain_first(kinds) {
+            return false;
+        }
+    }
+    is_still(kinds, removes, owed)
+}
+
+fn is_plain_first(kinds: &[u8]) -> bool
+    ensures { λ r. ⌜ r ≡ isPlainFirst (now (kinds .entry)) ⌝ }
+{
+    if kinds.len() == 0 {
+        return true;
+    }
+    kinds[0] == 0
+}
+
+// The octets of a server line from i on, and its end if it is plain.
+fn server_line(
+    held: usize,
+    owed: usize,
+    unfinished: bool,
+    octets: &[u8],
+    i: usize,
+    lent: &mut [u8],
+    to_client: &mut [u8],
+    at: usize,
+) -> Answered
+    requires { ⌜ (held ≤ 511) × (owed ≤ 16) × (isStill (kindsLent (now lent)) 0 owed ≡ true) ⌝ }
+    requires { ⌜ (i ≤ length (now octets)) × (length (now lent) ≡ 1058) × (at ≤ length (now «to_client»)) ⌝ }
+    ensures ran { λ r.
+        ⌜ AnsweredPlain (now (octets .entry)) i held owed unfinished (now (lent .entry)) (now («to_client» .entry)) at r
+        (now (lent .exit)) (now («to_client» .exit)) ⌝ }
+    ensures more { λ r. ⌜ (r .more ≡ true → i < r .taken) ⌝ }
+{
+    let j = hold_run(octets, i, &mut lent[REPLY..LENT], held);
+    let n = held + (j - i);
+    if may_end(octets, j, n, to_client.len() - at) {
+        let read = text(held, &octets[i..j], &lent[REPLY..REPLY + n]);
+        let reply = replies::reply_line(lines::content(read));
+        let removes = removed(reply, owed);
+        if keeps_still(&lent[KINDS..COMMAND], unfinished, removes, owed) {
+            let line = text(held, &octets[i..j], &lent[REPLY..REPLY + n]);
+            let next = put_line(to_client, at, line, LF);
+            shift(&mut lent[KINDS..COMMAND], removes, owed);
+            return Answered {
+                more: true,
+                taken: j + 1,
+                held: 0,
+                owed: owed - removes,
+                unfinished: goes_on(reply),
+                at: next,
+            };
+        }
+    }
+    Answered {
+        more: false,
+        taken: j,
+        held: n,
+        owed,
+        unfinished,
+        at,
+    }
+}
+
+// Plain lines of a server that holds its octets, from i on, with `start` octets held.
+fn server_lines(
+    start: usize,
+    before: usize,
+    reply: bool,
+    octets: &[u8],
+    from: usize,
+    lent: &mut [u8],
+    to_client: &mut [u8],
+    first: usize,
+) -> Answered
+    requires { ⌜ (start ≤ 511) × (before ≤ 16) × (isStill (kindsLent (now lent)) 0 before ≡ true) ⌝ }
+    requires { ⌜ (from ≤ length (now octets)) × (length (now lent) ≡ 1058) × (first ≤ length (now «to_client»)) ⌝ }
+    ensures { λ r.
+        ⌜ AnsweredPlain (now (octets .entry)) from start before reply (now (lent .entry)) (now («to_client» .entry)) first r
+        (now (lent .exit)) (now («to_client» .exit)) ⌝ }
+{
+    let mut held = start;
+    let mut owed = before;
+    let mut unfinished = reply;
+    let mut at = first;
+    let mut i = from;
+    while i < octets.len() {
+        let answered = server_line(held, owed, unfinished, octets, i, lent, to_client, at);
+        if !answered.more {
+            return answered;
+        }
+        held = answered.held;
+        owed = answered.owed;
+        unfinished = answered.unfinished;
+        at = answered.at;
+        i = answered.taken;
+    }
+    Answered {
+        more: false,
+        taken: i,
+        held,
+        owed,
+        unfinished,
+        at,
+    }
+}
+
+// Plain lines of the client from i on, where it holds its octets.
+fn plain_commands(
+    control: Control,
+    octets: &[u8],
+    i: usize,
+    lent: &mut [u8],
+    to_server: &mut [u8],
+    written: Written,
+) -> Part
+    requires { ⌜ Counted control × (isStill (kindsLent (now lent)) 0 (control .owed) ≡ true) ⌝ }
+    requires { ⌜ (i ≤ length (now octets)) × (length (now lent) ≡ 1058) × (written .server ≤ length (now «to_server»)) ⌝ }
+    ensures { λ r.
+        let l = now (octets .entry) in
+        let out = now («to_server» .entry) in
+        let after = now («to_server» .exit) in
+        ⌜ ((f : Fixed) (toClient : List ℕ) → written .client ≤ length toClient
+        → Ran f client l (coreLent control (now (lent .entry)) out toClient written) i
+        (coreLent (r .control) (now (lent .exit)) after toClient (r .written)) (r .taken)) ⌝ }
+    ensures fixed { λ _. ⌜ addressesLent (now (lent .exit)) ≡ addressesLent (now (lent .entry)) ⌝ }
+{
+    let direction = control.client;
+    if !is_holding(direction) {
+        return Part {
+            taken: i,
+            control,
+            written,
+        };
+    }
+    let said = client_lines(
+        direction.held,
+        control.owed,
+        octets,
+        i,
+        lent,
+        to_server,
+        written.server,
+    );
+    let then = Direction {
+        place: Place::Holding,
+        held: said.held,
+    };
+    Part {
+        taken: said.taken,
+        control: with_client(control, control.switches, then, said.owed),
+        written: Written {
+            server: said.at,
+            client: written.client,
+        },
+    }
+}
+
+// Plain lines of the server from i on, where it holds its octets.
+fn plain_replies(
+    control: Control,
+    octets: &[u8],
+    i: usize,
+    lent: &mut [u8],
+    to_client: &mut [u8],
+    written: Written,
+) -> Part
+    requires { ⌜ Counted control × (isStill (kindsLent (now lent)) 0 (control .owed) ≡ true) ⌝ }
+    requires { ⌜ (i ≤ length (now octets)) × (length (now lent) ≡ 1058) × (written .client ≤ length (now «to_client»)) ⌝ }
+    ensures { λ r.
+        let l = now (octets .entry) in
+        let out = now («to_client» .entry) in
+        let after = now («to_client» .exit) in
+        ⌜ ((f : Fixed) (toServer : List ℕ) → written .server ≤ length toServer
+        → Ran f server l (coreLent control (now (lent .entry)) toServer out written) i
+        (coreLent (r .control) (now (lent .exit)) toServer after (r .written)) (r .taken)) ⌝ }
+    ensures fixed { λ _. ⌜ addressesLent (now (lent .exit)) ≡ addressesLent (now (lent .entry)) ⌝ }
+{
+    let direction = control.server;
+    if !is_holding(direction) {
+        return Part {
+            taken: i,
+            control,
+            written,
+        };
+    }
+    let answered = server_lines(
+        direction.held,
+        control.owed,
+        control.unfinished,
+        octets,
+        i,
+        lent,
+        to_client,
+        written.client,
+    );
+    let then = Direction {
+        place: Place::Holding,
+        held: answered.held,
+    };
+    Part {
+        taken: answered.taken,
+        control: with_server(control, then, answered.owed, answered.unfinished),
+        written: Written {
+            server: written.server,
+            client: answered.at,
+        },
+    }
+}
+
+// Plain lines of a direction from i on, if any begin there.
+pub fn plain_lines(
+    from_client: bool,
+    control: Control,
+    octets: &[u8],
+    i: usize,
+    lent: &mut [u8],
+    to_server: &mut [u8],
+    to_client: &mut [u8],
+    written: Written,
+) -> Part
+    requires { ⌜ Bounded control written (now «to_server») (now «to_client») ⌝ }
+    requires { ⌜ (i ≤ length (now octets)) × (length (now lent) ≡ 1058) ⌝ }
+    ensures { λ r.
+        let k = coreLent control (now (lent .entry)) (now («to_server» .entry)) (now («to_client» .entry)) written in
+        let m = coreLent (r .control) (now (lent .exit)) (now («to_server» .exit)) (now («to_client» .exit)) (r .written) in
+        ⌜ ((fixed : Fixed) → Ran fixed (sideIf «from_client») (now (octets .entry)) k i m (r .taken)) ⌝ }
+    ensures fixed { λ _. ⌜ addressesLent (now (lent .exit)) ≡ addressesLent (now (lent .entry)) ⌝ }
+{
+    if !is_still(&lent[KINDS..COMMAND], 0, control.owed) {
+        return Part {
+            taken: i,
+            control,
+            written,
+        };
+    }
+    if from_client {
+        return plain_commands(control, octets, i, lent, to_server, written);
+    }
+    plain_replies(control, octets, i, lent, to_client, written)
+}
