@@ -41,8 +41,8 @@ saidControl c held owed = withClient c (c .switches) (at Place.Holding held) owe
 abbrev pub answeredControl : Control → ℕ → ℕ → Bool → Control
 answeredControl c held owed unfinished = withServer c (at Place.Holding held) owed unfinished
 
--- plain lines of a client that holds h octets, with m replies owed and w octets written, lead from i to where r says, whatever the rest of the control and the client's buffer are;
--- and the queue is still then
+-- plain lines of a client that holds h octets, with m replies owed and w octets written, lead from i to where r says,
+-- whatever the rest of the control and the client's buffer are; and the queue is still then
 pub record SaidPlain (l : List ℕ) (i h m : ℕ) (lent out : List ℕ) (w : ℕ) (r : Said) (lent′ out′ : List ℕ) : Type 0 where
   pub ran : (f : Fixed) (c : Control) (toClient : List ℕ) (n : ℕ) → n ≤ length toClient
       → Ran f client l (coreLent (saidControl c h m) lent out toClient (record { server = w; client = n })) i

@@ -7,6 +7,7 @@ ghost use Rattle.steps.specs.declared.Fixed.{Fixed};
 ghost use Rattle.steps.specs.Takes.{takes, tookIn, fixedLent, addressesLent, stateLent, coreLent, Given};
 ghost use Rattle.steps.specs.Core.{Bounded};
 ghost use Rattle.arrivals.specs.Runs.{Ran};
+use output::sixteen;
 use places::Direction;
 use places::LF;
 use plain::plain_lines;
@@ -18,9 +19,9 @@ use rules::number_of;
 use running::Part;
 use running::any_run;
 use steps::COMMAND;
+use steps::KINDS;
 use steps::LENT;
 use steps::Written;
-use steps::kinds_in;
 use steps::next_octet;
 
 mod plain;
@@ -228,7 +229,7 @@ fn next_run(
     }
     let then = plain.control;
     let given = plain.written;
-    let kinds = kinds_in(lent);
+    let kinds = sixteen(&lent[KINDS..COMMAND]);
     any_run(
         from_client,
         then,

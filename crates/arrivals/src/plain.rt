@@ -6,7 +6,7 @@ ghost use mathlib.Core.Bool.{true, false};
 ghost use mathlib.Core.List.{List};
 ghost use Prim.Native.Nat.{ℕ, _+_, _-_, _≤_, _<_};
 ghost use lib.ListN.{length, getD};
-ghost use Rattle.rules.specs.Octets.{every, lf};
+ghost use Rattle.rules.specs.Octets.{lf};
 ghost use Rattle.rules.specs.Replies.{leavesUnfinished};
 ghost use Rattle.rules.specs.Answers.{client, server};
 ghost use Rattle.steps.specs.declared.Fixed.{Fixed};
@@ -122,7 +122,7 @@ fn client_line(
     }
 }
 
-// Plain lines of a client that holds its octets, from i on, with `start` octets held.
+// Plain lines of a client that holds its octets, with `start` octets held.
 fn client_lines(
     start: usize,
     before: usize,
@@ -231,6 +231,7 @@ fn server_line(
         let reply = replies::reply_line(lines::content(read));
         let removes = removed(reply, owed);
         if keeps_still(&lent[KINDS..COMMAND], unfinished, removes, owed) {
+            // Asked for again: the kinds were lent in between.
             let line = text(held, &octets[i..j], &lent[REPLY..REPLY + n]);
             let next = put_line(to_client, at, line, LF);
             shift(&mut lent[KINDS..COMMAND], removes, owed);
@@ -254,7 +255,7 @@ fn server_line(
     }
 }
 
-// Plain lines of a server that holds its octets, from i on, with `start` octets held.
+// Plain lines of a server that holds its octets, with `start` octets held.
 fn server_lines(
     start: usize,
     before: usize,

@@ -8,7 +8,7 @@ ghost use lib.ListN.{length, take, drop};
 ghost use Rattle.rules.specs.Octets.{every, isNot, lf};
 ghost use Rattle.rules.specs.Answers.{client, isQueueFull};
 ghost use Rattle.output.specs.Buffer.{placed};
-ghost use Rattle.places.specs.Places.{at, isHolding as holds, isFlowing as flows, isPassing as passes};
+ghost use Rattle.places.specs.Places.{at, isPassing as passes};
 ghost use Rattle.steps.specs.declared.Fixed.{Fixed};
 ghost use Rattle.steps.specs.Core.{Bounded};
 ghost use Rattle.arrivals.specs.Runs.{Quiet, Ran, ClientRan, ServerRan};
@@ -17,6 +17,7 @@ ghost use Rattle.steps.specs.Takes.{coreIn};
 use output::put;
 use places::Direction;
 use places::Place;
+use places::has_ended;
 use places::is_flowing;
 use places::is_holding;
 use places::is_passing;
@@ -37,8 +38,8 @@ pub struct Part {
     pub written: Written,
 }
 
-// Nothing is left to settle: no own answer leaves the queue, and AUTH is not first or its step is done. It may say no
-// where that holds, as of a server that has ended; the octets are then taken one by one.
+// Nothing is left to settle: no own answer leaves the queue, and AUTH is not first or its step is done, as it is where the
+// server passes or has ended. It may say no where that holds; the octets are then taken one by one.
 fn is_settled(control: Control, kinds: [u8; 16]) -> bool
     ensures { λ r. ⌜ (r ≡ true → Quiet control kinds) ⌝ }
 {
@@ -53,7 +54,10 @@ fn is_settled(control: Control, kinds: [u8; 16]) -> bool
     if server.held != 0 {
         return false;
     }
-    is_passing(server)
+    if is_passing(server) {
+        return true;
+    }
+    has_ended(server)
 }
 
 // No more than either.
@@ -240,7 +244,7 @@ fn client_run(
     }
 }
 
-// The same of the server's octets.
+// The server's octets after AUTH.
 fn server_pass(
     control: Control,
     kinds: [u8; 16],
@@ -271,6 +275,7 @@ fn server_pass(
     }
 }
 
+// The octets of a server line that flows.
 fn server_flow(
     control: Control,
     kinds: [u8; 16],
@@ -301,6 +306,7 @@ fn server_flow(
     }
 }
 
+// The octets of a held server line.
 fn server_hold(
     control: Control,
     kinds: [u8; 16],

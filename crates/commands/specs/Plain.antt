@@ -14,6 +14,6 @@ isOther CommandWord.Algs = false
 isOther CommandWord.Auth = false
 isOther CommandWord.Other = true
 
--- a line judged whole that begins with none of them
+-- a line judged whole whose word is none of them
 unfoldable pub isPlain : List ℕ → Bool
 isPlain l = isOther (commandWord (word (content l)))

@@ -41,7 +41,7 @@ unfoldable pub passiveEffect : PassiveReply → Gives
 passiveEffect (PassiveReply.Port p) = Gives.ExtendedPassive p
 passiveEffect PassiveReply.Unreadable = Gives.HeldAndOctet
 
--- "The 227 of a translated EPSV" is read, any other line passes
+-- the 227 that answers a translated EPSV is read, any other line passes
 unfoldable pub kindEffect : Kind → List ℕ → Gives
 kindEffect Kind.Plain c = Gives.HeldAndOctet
 kindEffect Kind.TranslatedEpsv c = passiveEffect (passiveReply c)

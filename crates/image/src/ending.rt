@@ -1,4 +1,5 @@
-// The end of a direction on the record where it lies: the held octets go out from their line, and the three fields that change are written.
+// The end of a direction on the record where it lies: the held octets go out from their line, and the three fields that
+// change are written.
 ghost use mathlib.Core.Path.{_≡_};
 ghost use mathlib.Core.Bool.{true};
 ghost use Prim.Native.Nat.{_≤_};
@@ -18,7 +19,9 @@ use records::Refusal;
 use rules::Answer;
 use steps::Written;
 
-// A direction ends: its held octets go into its buffer. A call that is refused, or has no room for them, leaves the image as it was.
+// A direction ends: its held octets go into its buffer. A call that is refused, or has no room for them, leaves the image
+// as it was. It asks what refuses it as an arrival does, each by itself, so that the compiler joins an arrival's tests with
+// what it reads.
 pub fn end_at(image: &mut [u8], direction: u8, to_server: &mut [u8], to_client: &mut [u8]) -> Told
     ensures { λ r.
         let o = endedAt (now (image .entry)) direction (now («to_server» .entry)) (now («to_client» .entry)) in

@@ -22,7 +22,7 @@ isFlowing Place.Flowing = true
 isFlowing Place.Passing = false
 isFlowing Place.Ended = false
 
--- "AUTH yet": its octets pass at once
+-- its octets pass at once; of the client, "AUTH yet"
 abbrev pub isPassing : Place → Bool
 isPassing Place.Holding = false
 isPassing Place.Flowing = false

@@ -20,7 +20,7 @@ pub enum Owes {
 }
 
 // The number of a kind in the record.
-pub fn code_of(kind: Kind) -> u8
+fn code_of(kind: Kind) -> u8
     ensures { λ r. ⌜ r ≡ codeOf kind ⌝ }
 {
     match kind {
@@ -48,7 +48,7 @@ fn answer_code(answer: OwnAnswer) -> u8
 }
 
 // The kind of a number; one that is not listed counts as plain.
-pub fn kind_of(code: u8) -> Kind
+fn kind_of(code: u8) -> Kind
     ensures { λ r. ⌜ r ≡ kindOf code ⌝ }
 {
     match code {
@@ -71,9 +71,9 @@ fn state_kind(epsv: bool, eprt: bool) -> Kind
 }
 
 // How far the own answers at the head of a queue reach, and how many octets they have in all.
-pub struct AnswersDue {
-    pub until: usize,
-    pub length: usize,
+struct AnswersDue {
+    until: usize,
+    length: usize,
 }
 
 // How the queue will settle: how many kinds leave it, how long their answers are, and whether AUTH is first then.
@@ -119,7 +119,7 @@ fn answer_at(kinds: [u8; 16], i: usize, owed: usize) -> Next
 }
 
 // The own answers at the head of what is owed from number `from` on.
-pub fn due(kinds: [u8; 16], from: usize, owed: usize) -> AnswersDue
+fn due(kinds: [u8; 16], from: usize, owed: usize) -> AnswersDue
     ensures { λ r. ⌜ (r .until ≡ from + answersAtHead (drop from (queueOf kinds owed))) × (r .length ≡ length (headAnswers (drop from (queueOf kinds owed)))) ⌝ }
     ensures { λ r. ⌜ r .length ≤ 768 ⌝ }
 {

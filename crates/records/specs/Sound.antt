@@ -48,7 +48,7 @@ refusalBy (some a) = Refusal.By a
 
 -- ---- what the arrays can hold
 
--- the counts are none that a record's arrays can't hold; number 4 refuses a record in which one is
+-- a record's arrays can hold these counts; number 4 refuses a record of others
 unfoldable pub holdable : Control → Bool
 holdable c = leb (c .owed) mostOwed && leb (c .client .held) (judged - 1) && leb (c .server .held) (judged - 1)
 

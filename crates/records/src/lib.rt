@@ -1,4 +1,4 @@
-// The record of a session, and which calls on it are refused before an octet is looked at.
+// The record of a session, its control rebuilt, and what is refused or has to wait.
 ghost use mathlib.Core.Path.{_≡_};
 ghost use Prim.Native.Nat.{_≤_};
 ghost use lib.ListN.{take};
@@ -158,11 +158,11 @@ pub fn blocked(control: Control) -> bool
 pub fn with_client(control: Control, switches: Switches, client: Direction, owed: usize) -> Control
     ensures { λ r. ⌜ r ≡ withClient control switches client owed ⌝ }
 {
-    let server = control.server;
+    let other = control.server;
     Control {
         switches,
         client,
-        server,
+        server: other,
         owed,
         unfinished: control.unfinished,
     }
@@ -173,10 +173,10 @@ pub fn with_server(control: Control, server: Direction, owed: usize, unfinished:
     ensures { λ r. ⌜ r ≡ withServer control server owed unfinished ⌝ }
 {
     let switches = control.switches;
-    let client = control.client;
+    let other = control.client;
     Control {
         switches,
-        client,
+        client: other,
         server,
         owed,
         unfinished,
@@ -197,7 +197,7 @@ pub fn queue_full(from_client: bool, control: Control) -> bool
     16 <= control.owed
 }
 
-// The counts are none that the record's arrays can't hold.
+// The record's arrays can hold these counts.
 pub fn holdable(counts: Control) -> bool
     ensures { λ r. ⌜ r ≡ areHoldable counts ⌝ }
 {

@@ -52,12 +52,9 @@ module _ (a n : ℕ) (l p : List ℕ) (within : a + n ≤ length l) (size : leng
 
 -- ---- the parts of what is lent
 
-pub kinds-long : (lent : List ℕ) → 36 ≤ length lent → length (kindsLent lent) ≡ 16
-kinds-long lent enough = length-take-le 16 (drop 20 lent) (omega (arith, length-drop 20 lent))
-
 module _ (lent : List ℕ) (all : length lent ≡ 1058) where
   pub kinds-size : length (kindsLent lent) ≡ 16
-  kinds-size = kinds-long lent (omega (arith, all))
+  kinds-size = length-take-le 16 (drop 20 lent) (omega (arith, all, length-drop 20 lent))
 
   pub lines-size : length (linesLent lent) ≡ 1022
   lines-size = length-drop 36 lent ∙ omega (arith, all)

@@ -12,7 +12,7 @@ use Rattle.rules.specs.declared.Kind.{Kind}
 use Rattle.octets.proofs.Choices.{by-test, choose-true, choose-false}
 use Rattle.places.specs.declared.Place.{Place}
 use Rattle.places.specs.declared.Direction.{Direction}
-use Rattle.places.specs.Places.{at, isFlowing, isPassing, flowsOrEnded, passesFromNow}
+use Rattle.places.specs.Places.{at, isFlowing, isPassing, isEnded, flowsOrEnded, passesFromNow}
 use Rattle.queue.specs.Kinds.{queueOf, answersAtHead, shifted}
 use Rattle.queue.proofs.Answers.{answers-none}
 use Rattle.queue.proofs.Listed.{shifted-queue}
@@ -35,6 +35,12 @@ place-passing Place.Holding e = absurd (false≢true e)
 place-passing Place.Flowing e = absurd (false≢true e)
 place-passing Place.Passing e = refl
 place-passing Place.Ended e = absurd (false≢true e)
+
+pub place-ended : (p : Place) → isEnded p ≡ true → p ≡ Place.Ended
+place-ended Place.Holding e = absurd (false≢true e)
+place-ended Place.Flowing e = absurd (false≢true e)
+place-ended Place.Passing e = absurd (false≢true e)
+place-ended Place.Ended e = refl
 
 -- a direction by its place and count
 pub direction-at : (d : Direction) {p : Place} → d .place ≡ p → d .held ≡ 0 → d ≡ at p 0
@@ -178,11 +184,17 @@ module _ (s : State) (p : Plan) (planned : Planned p s 0) (stays : p .leaving �
   pub quiet-plain : p .auth ≡ false → Settled s
   quiet-plain never = record { answers = no-answers; auth = λ e. absurd (false≢true (sym never ∙ next-auth e)) }
 
-  -- nothing leaves the queue, and the server passes
-  pub quiet-through : s .control .server .held ≡ 0 → isPassing (s .control .server .place) ≡ true → Settled s
-  quiet-through none pass =
-      record {
-        answers = no-answers;
-        auth = λ _. subst (λ (n : ℕ). Through (s .control .server .place) n) (sym none)
-            (subst (λ (q : Place). Through q 0) (sym (place-passing (s .control .server .place) pass)) passes);
-      }
+  -- nothing leaves the queue, and the server is through
+  pub quiet-through : Through (s .control .server .place) (s .control .server .held) → Settled s
+  quiet-through through = record { answers = no-answers; auth = λ _. through }
+
+-- a server that holds nothing is through where it passes, or has ended
+module _ (d : Direction) (none : d .held ≡ 0) where
+  through-at : (p : Place) → d .place ≡ p → Through p 0 → Through (d .place) (d .held)
+  through-at p e t = subst (λ (n : ℕ). Through (d .place) n) (sym none) (subst (λ (q : Place). Through q 0) (sym e) t)
+
+  pub through-passing : isPassing (d .place) ≡ true → Through (d .place) (d .held)
+  through-passing e = through-at Place.Passing (place-passing (d .place) e) passes
+
+  pub through-ended : isEnded (d .place) ≡ true → Through (d .place) (d .held)
+  through-ended e = through-at Place.Ended (place-ended (d .place) e) ended

@@ -1,7 +1,6 @@
 // One octet of a direction, over what is lent of a record.
 ghost use mathlib.Core.Path.{_≡_};
 ghost use mathlib.Core.Bool.{false};
-ghost use Prim.Native.Nat.{_≤_};
 ghost use lib.ListN.{length};
 ghost use borrow.Rule.Slice.PartMut.{putMid};
 ghost use Rattle.rules.specs.Answers.{isQueueFull};
@@ -77,13 +76,10 @@ fn fixed_in(supported: bool, lent: &[u8]) -> Fixed
     }
 }
 
-// The kinds owed, as they are lent. Fewer octets are no record's, and what is read of them is left open.
-pub fn kinds_in(lent: &[u8]) -> [u8; 16]
-    ensures { λ r. ⌜ (36 ≤ length (now (lent .entry)) → r ≡ kindsLent (now (lent .entry))) ⌝ }
+fn kinds_in(lent: &[u8]) -> [u8; 16]
+    requires { ⌜ length (now lent) ≡ 1058 ⌝ }
+    ensures { λ r. ⌜ r ≡ kindsLent (now (lent .entry)) ⌝ }
 {
-    if lent.len() < COMMAND {
-        return [0; 16];
-    }
     sixteen(&lent[KINDS..COMMAND])
 }
 
@@ -94,7 +90,7 @@ fn put_kinds(lent: &mut [u8], kinds: [u8; 16])
     put(&mut lent[KINDS..COMMAND], 0, &kinds);
 }
 
-// Counts and places are none that can't be.
+// Counts and positions can be.
 fn within(control: Control, lent: usize, server: usize, client: usize, written: Written) -> bool
     ensures { λ r. ⌜ r ≡ isWithin control lent server client written ⌝ }
 {
@@ -110,8 +106,8 @@ fn within(control: Control, lent: usize, server: usize, client: usize, written: 
     written.client <= client
 }
 
-// An octet of a direction: its output goes behind what is written already. From counts and places that can't be, or
-// where it has to wait, all is left as it was.
+// An octet of a direction: its output goes behind what is written already. From counts and positions that
+// can't be, or where it has to wait, all is left as it was.
 pub fn next_octet(
     supported: bool,
     from_client: bool,

@@ -1,19 +1,17 @@
--- Sixteen octets, as an array, where there are enough.
+-- Sixteen octets, as an array.
 use mathlib.Core.Path.{_∙_}
-use native.Mathlib.Omega.{arith}
 use Rattle.output.proofs.Front.{filled}
-use Rattle.steps.proofs.Lent.{kinds-long}
+use Rattle.steps.proofs.Lent.{kinds-size}
 use borrow.Author.Needs.{needs}
 use Rattle.steps.proofs.kinds_in.Statement.{statement}
 use Rattle.steps.proofs.kinds_in.Tie as tie
 
 returns : tie.Need-returns
-returns c = λ enough. absurd (omega arith)
-
-returns-2 : tie.Need-returns-2
-returns-2 c = λ enough. c .sixteen .ensures ∙ filled 16 _ (kinds-long (c .before .before .before .before .args .lent .now) enough)
+returns c =
+    let start = c .before .before .before in
+    c .sixteen .ensures ∙ filled 16 _ (kinds-size (start .args .lent .now) (start .pre))
 
 pub kinds-in-spec : {M : Type 1} → statement M
 kinds-in-spec =
     tie.close
-    (tie.spec returns (λ c. search needs) (λ c. search needs) (λ c. search needs) (λ c κs. search needs) returns-2)
+    (tie.spec (λ c. search needs) (λ c. search needs) (λ c. search needs) (λ c κs. search needs) returns)

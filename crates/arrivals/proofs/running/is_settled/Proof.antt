@@ -1,11 +1,15 @@
--- Where nothing leaves the queue the state is settled if AUTH is not first, or the server passes with nothing held.
-use mathlib.Core.Path.{sym, _∙_}
-use mathlib.Core.Bool.{false≢true}
+-- Where nothing leaves the queue the state is settled if AUTH is not first, or the server is through with nothing held.
+use mathlib.Core.Path.{_≡_, sym, _∙_}
+use mathlib.Core.Bool.{true, false≢true}
+use mathlib.Core.List.{List}
+use Prim.Native.Nat.{ℕ}
 use borrow.Author.Tests.{not-true}
 use borrow.Author.Needs.{needs}
+use Rattle.steps.specs.Settled.{Through}
 use Rattle.steps.specs.Takes.{stateFrom}
 use Rattle.steps.proofs.Settles.{planned-by}
-use Rattle.steps.proofs.Quiet.{quiet-plain, quiet-through}
+use Rattle.steps.proofs.Quiet.{quiet-plain, quiet-through, through-passing, through-ended}
+use Rattle.arrivals.specs.Runs.{Quiet}
 use Rattle.arrivals.proofs.running.is_settled.Statement.{statement}
 use Rattle.arrivals.proofs.running.is_settled.Tie as tie
 
@@ -22,13 +26,24 @@ returns-2 c = λ _ command reply.
 returns-3 : tie.Need-returns-3
 returns-3 c = λ e. absurd (false≢true e)
 
+-- the server is through
+module _ (c : tie.After-is-passing) where
+  quiet : Through (c .before .before .before .before .before .before .before .before .before .before .args .control .server .place) (c .before .before .before .before .before .before .before .before .before .before .args .control .server .held) → Quiet (c .before .before .before .before .before .before .before .before .before .before .args .control) (c .before .before .before .before .before .before .before .before .before .before .args .kinds)
+  quiet through command reply =
+      let a = c .before .before .before .before .before .before .before .before .before .before .args in
+      let p = c .before .before .before .before .before .before .before .before .planned in
+      let plan = planned-by (a .control) (a .kinds) 0 (c .before .before .before .before .before .before .before .before .before .blocked .ensures) (p .ensures .0) command reply in
+      quiet-through (stateFrom (a .control) command reply (a .kinds)) (p .result) plan (c .before .before .before .before .before .before .if1 .left) through
+
 returns-4 : tie.Need-returns-4
-returns-4 c = λ e command reply.
-    let a = c .before .before .before .before .before .before .before .before .before .before .args in
-    let p = c .before .before .before .before .before .before .before .before .planned in
-    let plan = planned-by (a .control) (a .kinds) 0 (c .before .before .before .before .before .before .before .before .before .blocked .ensures) (p .ensures .0) command reply in
-    quiet-through (stateFrom (a .control) command reply (a .kinds)) (p .result) plan (c .before .before .before .before .before .before .if1 .left)
-    (c .before .if3 .left) (sym (c .is-passing .ensures) ∙ e)
+returns-4 c = λ _.
+    let test = c .before in
+    quiet test (through-passing (test .before .before .before .before .before .before .before .before .before .before .args .control .server) (test .before .if3 .left) (sym (test .is-passing .ensures) ∙ c .if4 .taken))
+
+returns-5 : tie.Need-returns-5
+returns-5 c = λ e.
+    let test = c .before .before in
+    quiet test (through-ended (test .before .before .before .before .before .before .before .before .before .before .args .control .server) (test .before .if3 .left) (sym (c .has-ended .ensures) ∙ e))
 
 pub is-settled-spec : {M : Type 1} → statement M
 is-settled-spec =
@@ -40,4 +55,6 @@ is-settled-spec =
     returns-2
     returns-3
     (λ c κs. search needs)
-    returns-4)
+    returns-4
+    (λ c κs. search needs)
+    returns-5)
