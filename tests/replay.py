@@ -49,8 +49,11 @@ def program_checks(program, folder):
     written = run(program, given=largest())
     yield "the largest session file", written[1].startswith(b"FTP64 REPORT 48\n") and written[1].count(b"\n") == 49 and not written[2]
     yield "as many octets as it has", run(program, given=bytes(LONGEST)) == (0, b"REFUSED 8\n", "")
-    yield "one octet more", complains(run(program, given=bytes(LONGEST + 1)), "standard input: longer than any session file")
-    yield "many octets more", complains(run(program, given=bytes(1000000)), "standard input: longer than any session file")
+    yield "one octet more", run(program, given=bytes(LONGEST + 1)) == (0, b"REFUSED 8\n", "")
+    yield "many octets more", run(program, given=bytes(1000000)) == (0, b"REFUSED 8\n", "")
+    yield "the largest with an octet more", run(program, given=largest() + b"x") == (0, b"REFUSED 7\n", "")
+    yield "the largest many times", run(program, given=largest() * 20) == (0, b"REFUSED 7\n", "")
+    yield "a small one with many octets more", run(program, given=sample + bytes(100000)) == (0, b"REFUSED 7\n", "")
 
 
 def command_checks(folder):

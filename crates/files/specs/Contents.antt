@@ -1,9 +1,10 @@
 -- "A table of contents first, then the bodies."
+use mathlib.Core.Path.{_≡_}
 use mathlib.Core.Bool.{Bool, true, false, _&&_, not}
 use mathlib.Core.List.{List, [], _∷_}
-use Prim.Native.Nat.{ℕ, zero, suc, _+_, _*_}
+use Prim.Native.Nat.{ℕ, zero, suc, _+_, _*_, _<_}
 use lib.Dec.{eqb, leb, ltb}
-use lib.ListN.{length, getD, drop}
+use lib.ListN.{length, getD, take, drop}
 use Rattle.rules.specs.Octets.{choose, within}
 use Rattle.files.specs.declared.Verdict.{Verdict}
 
@@ -63,6 +64,10 @@ unfoldable pub bodiesLength : List Entry → ℕ
 bodiesLength [] = 0
 bodiesLength (e ∷ es) = e .length + bodiesLength es
 
+-- the largest session file: the count, 48 entries of the table, a setup and 47 bodies of 1,024
+unfoldable pub longestFile : ℕ
+longestFile = 2 + 4 * 48 + 21 + 47 * 1024
+
 -- "Order: two octets present, count, table present, entries, total"
 unfoldable pub verdict : List ℕ → Verdict
 verdict file =
@@ -72,6 +77,10 @@ verdict file =
     (choose (not (goodTable (tableOf file))) Verdict.WrongTable
     (choose (eqb (length file) (tableEnd file + bodiesLength (tableOf file))) Verdict.Accepted Verdict.WrongLength))))
 
+-- a file longer than any session file is refused as its first octets are, one more than the largest has
+abbrev pub LongerSame : Type 0
+LongerSame = (file : List ℕ) → longestFile < length file → verdict (take (longestFile + 1) file) ≡ verdict file
+
 -- "`REFUSED 7` (file length not what the table says, table cut) or `REFUSED 8` (count, kind, order, zero octet or length wrong)"
 unfoldable pub verdictNumber : Verdict → ℕ
 verdictNumber Verdict.Accepted = 0
@@ -80,5 +89,5 @@ verdictNumber Verdict.WrongTable = 8
 
 -- this page's definitions, for a proof that computes with them
 unfoldable pub contents-opened : Unit {0}
-unfolding verdictNumber pairAt entryOf entries count tableEnd tableOf goodLength goodEntry noSetups goodTable bodiesLength verdict
+unfolding verdictNumber pairAt entryOf entries count tableEnd tableOf goodLength goodEntry noSetups goodTable bodiesLength longestFile verdict
 contents-opened = tt

@@ -8,12 +8,15 @@ use libc::STDOUT_FILENO;
 use report::Part;
 use report::Progress;
 
-// How many octets an input has, or why they can not be had.
+// How many octets are read, or that reading failed.
 enum Reading {
-    Whole(usize),
-    TooLong,
+    Some(usize),
     Failed,
 }
+
+// One octet more than the largest session file has: the count, 48 entries of the table, a setup and 47 bodies of 1,024.
+// No more is looked at: a longer file is refused as these octets are (`longer-same` of the crate files).
+const LOOKED_AT: usize = 48344;
 
 fn main() {
     let words = os::arg_count();
@@ -44,16 +47,12 @@ fn replay_input(fd: i32, name: &[u8]) {
     let mut input = io::large_buffer();
     let reading = read_input(fd, &mut input);
     match reading {
-        Reading::Whole(n) => replay_file(first(&input, n)),
-        Reading::TooLong => {
-            io::write_all(STDERR_FILENO, name);
-            io::write_all(STDERR_FILENO, b": longer than any session file\n");
-        }
+        Reading::Some(n) => replay_file(first(first(&input, n), LOOKED_AT)),
         Reading::Failed => os::fail(name),
     }
 }
 
-// Reads until the input ends. No session file has more than 48,343 octets: the count, 48 entries of the table, a setup and 47 bodies of 1,024.
+// Reads until the input ends, or the buffer is full.
 fn read_input(fd: i32, input: &mut [u8]) -> Reading {
     let mut n = 0;
     while n < input.len() {
@@ -63,18 +62,11 @@ fn read_input(fd: i32, input: &mut [u8]) -> Reading {
         }
         let more = io::count(got, &input[n..]);
         if more == 0 {
-            return whole(n);
+            return Reading::Some(n);
         }
         n += more;
     }
-    Reading::TooLong
-}
-
-fn whole(n: usize) -> Reading {
-    if n > 48343 {
-        return Reading::TooLong;
-    }
-    Reading::Whole(n)
+    Reading::Some(n)
 }
 
 // The header or the refusal, and at most 48 entries (`few-parts` of the crate report).

@@ -45,9 +45,6 @@ part-count-end c = search needs
 count-requires : tie.Need-count-requires Inv-loop μ-loop
 count-requires c κs = search needs
 
-whole-requires : tie.Need-whole-requires Inv-loop μ-loop
-whole-requires c κs = search needs
-
 same-length-2 : tie.Need-same-length-2 Inv-loop μ-loop
 same-length-2 c = search needs
 
@@ -86,7 +83,6 @@ read-input-spec =
     part-count-start
     part-count-end
     count-requires
-    whole-requires
     same-length-2
     returns-2
     add-n
