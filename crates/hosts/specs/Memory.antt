@@ -15,7 +15,7 @@ use Rattle.session.specs.Calls.{Outcome, offset as sessionOffset}
 use Rattle.history.specs.Gateway.{numberOf, offsetNumber}
 use Rattle.image.specs.Image.{imageSize, imageOf, sessionOf}
 use Rattle.image.specs.Lent.{arrivedAt, endedAt, imageAfter, serverAfter, clientAfter}
-use Rattle.relay.specs.Host.{preparedFrom, setupNumber}
+use Rattle.relay.specs.Host.{preparedFrom, setupNumber, countsAfter}
 
 -- "the record of a setup that answered 0": what `fashlemor_setup` left in memory that had room for a record
 pub record Fresh (su : Setup) (image : List ℕ) : Type 0 where
@@ -31,6 +31,14 @@ pub record Fresh (su : Setup) (image : List ℕ) : Type 0 where
 unfoldable pub outcomeAt : List ℕ → Call → Outcome
 outcomeAt image (arrival d octets s c) = arrivedAt image d octets s c
 outcomeAt image (ending d s c) = endedAt image d s c
+
+-- all that they do, however many counts a host lends: the number n, and memory, buffers and counts then
+pub record Does (image : List ℕ) (c : Call) (counts : List ℕ) (n : ℕ) (image′ server client counts′ : List ℕ) : Type 0 where
+  pub number : n ≡ answerNumber (outcomeAt image c .called .answer)
+  pub memory : image′ ≡ imageAfter image (outcomeAt image c .called)
+  pub serverBuffer : server ≡ serverAfter (outcomeAt image c) (lentServer c)
+  pub clientBuffer : client ≡ clientAfter (outcomeAt image c) (lentClient c)
+  pub told : counts′ ≡ countsAfter (outcomeAt image c .called) counts
 
 -- what they promise: the number, the three counts, the memory, and the two buffers
 pub record Promise (image : List ℕ) (c : Call) (t : Return (List ℕ)) : Type 0 where

@@ -25,8 +25,10 @@ returns : tie.Need-returns
 unfolding outcomeAt
 returns c =
     let a = c .before .before .before .before .before .before .before .before .before .before .before .before .before .before .before .before .before .before .args in
-    let e = c .before .before .before .before .before .before .before .before .fashlemor-arrive .ensures in
-    λ answer number room. call-promised (a .image .now) (arrival (a .direction) (a .octets .now) (a .to-server .now) (a .to-client .now)) (a .counts .now) answer number (e .0) (e .1 .0) (e .1 .1 .0) (e .1 .1 .1 .0) (e .1 .1 .1 .1) room
+    let e = c .before .before .before .before .before .before .before .before .fashlemor-arrive .ensures in (
+      record { number = e .0; memory = e .1 .0; serverBuffer = e .1 .1 .0; clientBuffer = e .1 .1 .1 .0; told = e .1 .1 .1 .1 },
+      λ answer number room. call-promised (a .image .now) (arrival (a .direction) (a .octets .now) (a .to-server .now) (a .to-client .now)) (a .counts .now) answer number (e .0) (e .1 .0) (e .1 .1 .0) (e .1 .1 .1 .0) (e .1 .1 .1 .1) room,
+    )
 
 pub promised-arrival-spec : {M : Type 1} → statement M
 promised-arrival-spec = tie.close (tie.spec fashlemor-arrive-requires same-length same-length-2 same-length-3 same-length-4 returns)

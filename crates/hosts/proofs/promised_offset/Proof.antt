@@ -15,7 +15,7 @@ returns : tie.Need-returns
 returns c =
     let a = c .before .before .before .before .before .before .args in
     let e = c .before .before .fashlemor-offset .ensures in
-    (e .0, λ known room. offset-promised (sessionOf (a .image .now)) (a .direction) (a .out .now) (e .1) known room)
+    (e .0, (e .1, λ known room. offset-promised (sessionOf (a .image .now)) (a .direction) (a .out .now) (e .1) known room))
 
 pub promised-offset-spec : {M : Type 1} → statement M
 promised-offset-spec = tie.close (tie.spec fashlemor-offset-requires same-length returns)
