@@ -1,11 +1,15 @@
 -- Demand 3 for a host in C: its calls are calls of the session on the record that its memory holds.
 use mathlib.Core.Path.{_≡_, refl, ap, sym, _∙_}
 use mathlib.Core.List.{List, [], _∷_}
-use Prim.Native.Nat.{ℕ, zero, suc}
-use lib.ListN.{length}
+use mathlib.Core.Bool.{true}
+use Prim.Native.Nat.{ℕ, zero, suc, _≤_}
+use native.Mathlib.Omega.{arith}
+use lib.Dec.{leb}
+use lib.ListN.{length, replicate, length-replicate}
 use Rattle.rules.specs.Answers.{answerNumber}
-use Rattle.rules.specs.Setup.{Setup}
-use Rattle.rules.specs.Demand3.{Call, arrival, ending, Return, Made, Calls, none, next, itemsOf, historyOf, goneToServer, goneToClient, Demand3}
+use Rattle.rules.specs.Octets.{every}
+use Rattle.rules.specs.Setup.{Setup, setupAnswer}
+use Rattle.rules.specs.Demand3.{Call, arrival, ending, Return, Made, Calls, none, next, lentServer, lentClient, itemsOf, historyOf, goneToServer, goneToClient, Demand3}
 use Rattle.rules.specs.declared.Answer.{Answer}
 use Rattle.records.specs.declared.Session.{Session}
 use Rattle.session.specs.declared.Prepared.{Prepared}
@@ -14,13 +18,14 @@ use Rattle.answers.specs.Table.{Call as TableCall, Result, arrival as arrivalRe
 use Rattle.answers.proofs.Table.{setup-zero}
 use Rattle.history.specs.Gateway.{Fresh as SessionFresh, Promise as SessionPromise, outcomeOf, gateway}
 use Rattle.history.proofs.Demand3.{demand3}
-use Rattle.image.specs.Image.{sessionOf}
-use Rattle.image.specs.Lent.{arrivedAt, endedAt, serverAfter, clientAfter}
+use Rattle.output.specs.Buffer.{placed}
+use Rattle.image.specs.Image.{imageSize, imageOf, sessionOf}
+use Rattle.image.specs.Lent.{arrivedAt, endedAt, imageAfter, serverAfter, clientAfter}
 use Rattle.relay.specs.Host.{preparedFrom}
 use Rattle.relay.specs.Carried.{Holds}
 use Rattle.relay.proofs.Calls.{from-slices, room}
 use Rattle.relay.proofs.Carrying.{good-flags, begun, carried}
-use Rattle.hosts.specs.Memory.{Fresh, outcomeAt, Promise, host}
+use Rattle.hosts.specs.Memory.{Fresh, outcomeAt, Promise, host, HostAnswering}
 
 -- ---- an answer by its number
 
@@ -167,3 +172,51 @@ host-demand3 su image z l fresh calls =
       clientOffset = rw (r .holds .read) (k .clientOffset ∙ rw (r .toServer, r .history));
       serverOffset = rw (r .holds .read) (k .serverOffset ∙ rw (r .toClient, r .history));
     }
+
+-- ---- the claim is not empty
+
+-- a setup of addresses of their lengths answers as its flags do
+setup-answer : (su : Setup) → length (su .client) ≡ 16 → length (su .mapped) ≡ 4
+    → preparedFrom (su .client) (su .mapped) (su .flags) .answer ≡ setupAnswer (su .flags)
+unfolding prepared
+setup-answer su e f = ap (λ (p : Prepared). p .answer) (from-slices (su .client) (su .mapped) (su .flags) e f)
+
+there : (su : Setup) → length (su .client) ≡ 16 → length (su .mapped) ≡ 4 → every (λ n. leb n 255) (su .mapped) ≡ true
+    → setupAnswer (su .flags) ≡ Answer.Done → (image : List ℕ) × Fresh su image
+there su e f octets zero-told =
+    let p = preparedFrom (su .client) (su .mapped) (su .flags) in
+    let blank : List ℕ = replicate imageSize 0 in
+    let size : length blank ≡ imageSize = length-replicate {A = ℕ} imageSize 0 in
+    let long : imageSize ≤ length blank = omega arith in (
+      placed blank 0 (imageOf (p .session)),
+      record {
+        memory = blank;
+        room = long;
+        client = e;
+        mapped = f;
+        octets = octets;
+        number = sym (room blank p long (sym (ap answerNumber (setup-answer su e f ∙ zero-told))));
+        put = refl;
+      },
+    )
+
+only : (su : Setup) (image : List ℕ) → Fresh su image → setupAnswer (su .flags) ≡ Answer.Done
+only su image f = sym (setup-answer su (f .client) (f .mapped)) ∙ done su image f
+
+call-returns : (image : List ℕ) (c : Call) → (t : Return (List ℕ)) × Promise image c t
+call-returns image c =
+    let o = outcomeAt image c in (
+      record {
+        answer = o .called .answer;
+        taken = o .called .taken;
+        toServer = o .called .written .server;
+        toClient = o .called .written .client;
+        session = imageAfter image (o .called);
+        serverBuffer = serverAfter o (lentServer c);
+        clientBuffer = clientAfter o (lentClient c);
+      },
+      record { number = refl; taken = refl; toServer = refl; toClient = refl; memory = refl; serverBuffer = refl; clientBuffer = refl },
+    )
+
+pub host-answering : HostAnswering
+host-answering = record { fresh = there; onlyFresh = only; returns = call-returns }

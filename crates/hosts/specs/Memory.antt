@@ -7,7 +7,7 @@ use lib.Dec.{leb}
 use lib.ListN.{length, getD}
 use Rattle.rules.specs.Octets.{every}
 use Rattle.rules.specs.Answers.{answerNumber}
-use Rattle.rules.specs.Setup.{Setup}
+use Rattle.rules.specs.Setup.{Setup, setupAnswer}
 use Rattle.rules.specs.Demand3.{Call, arrival, ending, Return, Gateway, lentServer, lentClient}
 use Rattle.rules.specs.declared.Answer.{Answer}
 use Rattle.output.specs.Buffer.{placed}
@@ -72,3 +72,11 @@ host =
       Promise = Promise;
       offset = λ image side. offsetNumber (sessionOffset (sessionOf image) (numberOf side));
     }
+
+-- what keeps demand 3 of a host from being empty: a setup that answers 0, with addresses of their lengths, has a memory,
+-- only such a setup's is fresh, and every call returns
+pub record HostAnswering : Type 0 where
+  pub fresh : (su : Setup) → length (su .client) ≡ 16 → length (su .mapped) ≡ 4 → every (λ n. leb n 255) (su .mapped) ≡ true
+      → setupAnswer (su .flags) ≡ Answer.Done → (image : List ℕ) × Fresh su image
+  pub onlyFresh : (su : Setup) (image : List ℕ) → Fresh su image → setupAnswer (su .flags) ≡ Answer.Done
+  pub returns : (image : List ℕ) (c : Call) → (t : Return (List ℕ)) × Promise image c t
