@@ -8,7 +8,7 @@ use lib.ListN.{length, take}
 use Rattle.rules.specs.Answers.{Side, client, server, sideOf}
 use Rattle.rules.specs.Edition.{LineRules}
 use Rattle.rules.specs.History.{Item, octet, end, textOf, takenFrom}
-use Rattle.rules.specs.ToClient.{Place as Reading, ClientState, ServerState}
+use Rattle.rules.specs.ToClient.{Place as Reading, ServerState}
 use Rattle.rules.specs.Demand3.{Call, arrival, ending, endIfDone, isRefusal}
 use Rattle.rules.specs.declared.Answer.{Answer}
 use Rattle.places.specs.declared.Place.{Place}
@@ -22,6 +22,7 @@ use Rattle.steps.specs.Takes.{Took, stopOf, takes}
 use Rattle.records.proofs.Refusals.{refusal-cases}
 use Rattle.steps.proofs.Stops.{unless-stopped}
 use Rattle.history.specs.Gateway.{outcomeOf}
+use Rattle.history.specs.ByOctets.{Client}
 use Rattle.history.proofs.Places.{Stands, holding, flowing, passing, ended, NoAuth, Agrees}
 use Rattle.history.proofs.Items.{Speaks}
 use Rattle.history.proofs.Steps.{Alike, Done, MaySpeak, done-nothing, takes-does, end-does}
@@ -42,10 +43,6 @@ speaks (holding h) e = tt
 speaks (flowing k g) e = tt
 speaks passing e = tt
 speaks ended e = true≢false e
-
-may-arrive : (d : Side) (s : State) (c : ClientState) (v : ServerState) → Alike s c v → isEnded (directionOf d (s .control) .place) ≡ false → MaySpeak d c
-may-arrive client s c v a e = speaks (a .client) e
-may-arrive server s c v a e = tt
 
 -- an arrival takes as many octets as it says
 takes-taken : (f : Fixed) (d : Side) (s : State) (xs : List ℕ) (rs rc : ℕ) → length (take (takes f d s xs rs rc .taken) xs) ≡ takes f d s xs rs rc .taken
@@ -71,28 +68,34 @@ refused-items Answer.BadRecord d e = refl
 refused-items Answer.BadSetup d e = refl
 refused-items Answer.DirectionEnded d e = refl
 
--- the record, and the states of the reading
-pub record Stays (f : Fixed) (r : Session) (c : ClientState) (v : ServerState) : Type 0 where
-  pub live : r .live ≡ true
-  pub fixed : fixedOf r ≡ f
-  pub alike : Alike (stateOf r) c v
+module _ {f : Fixed} {rules : LineRules} (agree : Agrees f rules) where
+  -- the record, and the states of the reading
+  pub record Stays (r : Session) (c : Client rules) (v : ServerState) : Type 0 where
+    pub live : r .live ≡ true
+    pub fixed : fixedOf r ≡ f
+    pub alike : Alike agree (stateOf r) c v
 
--- a call that adds these items to the history
-pub record Makes (f : Fixed) (rules : LineRules) (r : Session) (c : ClientState) (v : ServerState) (is : List Item) (o : Outcome) : Type 0 where
-  pub done : Done rules c v is (o .toServer) (o .toClient) (stateOf (o .called .session))
-  pub live : o .called .session .live ≡ true
-  pub fixed : fixedOf (o .called .session) ≡ f
-  pub writtenServer : o .called .written .server ≡ length (o .toServer)
-  pub writtenClient : o .called .written .client ≡ length (o .toClient)
-  pub up : (t w : ℕ) → Counted (r .up) t w → Counted (o .called .session .up) (t + takenFrom client is) (w + length (o .toServer))
-  pub down : (t w : ℕ) → Counted (r .down) t w → Counted (o .called .session .down) (t + takenFrom server is) (w + length (o .toClient))
+  -- a call that adds these items to the history
+  pub record Makes (r : Session) (c : Client rules) (v : ServerState) (is : List Item) (o : Outcome) : Type 0 where
+    pub done : Done agree c v is (o .toServer) (o .toClient) (stateOf (o .called .session))
+    pub live : o .called .session .live ≡ true
+    pub fixed : fixedOf (o .called .session) ≡ f
+    pub writtenServer : o .called .written .server ≡ length (o .toServer)
+    pub writtenClient : o .called .written .client ≡ length (o .toClient)
+    pub up : (t w : ℕ) → Counted (r .up) t w → Counted (o .called .session .up) (t + takenFrom client is) (w + length (o .toServer))
+    pub down : (t w : ℕ) → Counted (r .down) t w → Counted (o .called .session .down) (t + takenFrom server is) (w + length (o .toClient))
 
 module _ (f : Fixed) (rules : LineRules) (agree : Agrees f rules) where
-  makes-nothing : (r : Session) (c : ClientState) (v : ServerState) (a : Answer) → Stays f r c v → Makes f rules r c v [] (refused a r)
+  may-arrive : (d : Side) (s : State) (c : Client rules) (v : ServerState) → Alike agree s c v
+      → isEnded (directionOf d (s .control) .place) ≡ false → MaySpeak d c
+  may-arrive client s c v a e = speaks (a .client) e
+  may-arrive server s c v a e = tt
+
+  makes-nothing : (r : Session) (c : Client rules) (v : ServerState) (a : Answer) → Stays agree r c v → Makes agree r c v [] (refused a r)
   unfolding refused textOf
   makes-nothing r c v a s =
       record {
-        done = done-nothing rules (s .alike);
+        done = done-nothing agree (s .alike);
         live = s .live;
         fixed = s .fixed;
         writtenServer = refl;
@@ -102,10 +105,10 @@ module _ (f : Fixed) (rules : LineRules) (agree : Agrees f rules) where
       }
 
   -- octets taken, or an end: what a call that is not refused does
-  makes-outcome : (r : Session) (c : ClientState) (v : ServerState) (d : Side) (is : List Item) (t : Took) → Stays f r c v
-      → Done rules c v is (t .toServer) (t .toClient) (t .state)
+  makes-outcome : (r : Session) (c : Client rules) (v : ServerState) (d : Side) (is : List Item) (t : Took) → Stays agree r c v
+      → Done agree c v is (t .toServer) (t .toClient) (t .state)
       → takenFrom client is ≡ takenFor client d (t .taken) → takenFrom server is ≡ takenFor server d (t .taken)
-      → Makes f rules r c v is (outcome r d t)
+      → Makes agree r c v is (outcome r d t)
   unfolding outcome sessionAfter
   makes-outcome r c v d is t s done a b =
       record {
@@ -119,8 +122,8 @@ module _ (f : Fixed) (rules : LineRules) (agree : Agrees f rules) where
       }
 
   -- the octets of an arrival, by the record's own fixed part
-  arrival-done : (g : Fixed) → g ≡ f → (d : Side) (s : State) (c : ClientState) (v : ServerState) (xs : List ℕ) (rs rc : ℕ) → Alike s c v → MaySpeak d c
-      → let t = takes g d s xs rs rc in Done rules c v (map (octet d) (take (t .taken) xs)) (t .toServer) (t .toClient) (t .state)
+  arrival-done : (g : Fixed) → g ≡ f → (d : Side) (s : State) (c : Client rules) (v : ServerState) (xs : List ℕ) (rs rc : ℕ) → Alike agree s c v → MaySpeak d c
+      → let t = takes g d s xs rs rc in Done agree c v (map (octet d) (take (t .taken) xs)) (t .toServer) (t .toClient) (t .state)
   arrival-done g e d s c v xs rs rc a m = rw e (takes-does f rules agree d s c v xs rs rc a m)
 
   octets-taken : (d e : Side) (g : Fixed) (s : State) (xs : List ℕ) (rs rc : ℕ)
@@ -135,8 +138,8 @@ module _ (f : Fixed) (rules : LineRules) (agree : Agrees f rules) where
   end-taken server client = refl
   end-taken server server = refl
 
-  makes-end : (r : Session) (c : ClientState) (v : ServerState) (d : Side) → Stays f r c v → (b : Bool)
-      → Makes f rules r c v (endIfDone (endOutcome r d (endStep d (stateOf r)) b .called .answer) d) (endOutcome r d (endStep d (stateOf r)) b)
+  makes-end : (r : Session) (c : Client rules) (v : ServerState) (d : Side) → Stays agree r c v → (b : Bool)
+      → Makes agree r c v (endIfDone (endOutcome r d (endStep d (stateOf r)) b .called .answer) d) (endOutcome r d (endStep d (stateOf r)) b)
   unfolding endOutcome outcome refused
   makes-end r c v d s true =
       let t : Step = endStep d (stateOf r) in
@@ -145,16 +148,16 @@ module _ (f : Fixed) (rules : LineRules) (agree : Agrees f rules) where
   makes-end r c v d s false = makes-nothing r c v Answer.NoRoom s
 
   -- every call
-  pub makes : (r : Session) (c : ClientState) (v : ServerState) (call : Call) → Stays f r c v → Makes f rules r c v (itemsOf call (outcomeOf r call)) (outcomeOf r call)
+  pub makes : (r : Session) (c : Client rules) (v : ServerState) (call : Call) → Stays agree r c v → Makes agree r c v (itemsOf call (outcomeOf r call)) (outcomeOf r call)
   unfolding outcomeOf arrived sessionEnded refused outcome
   makes r c v (arrival d xs bs bc) s =
-      unless-refused (λ o. Makes f rules r c v (map (octet (sideOf d)) (take (o .called .taken) xs)) o) r d _
+      unless-refused (λ o. Makes agree r c v (map (octet (sideOf d)) (take (o .called .taken) xs)) o) r d _
       (λ a e. makes-nothing r c v a s)
       (λ e. makes-outcome r c v (sideOf d) _ (takes (fixedOf r) (sideOf d) (stateOf r) xs (length bs) (length bc)) s
       (arrival-done (fixedOf r) (s .fixed) (sideOf d) (stateOf r) c v xs (length bs) (length bc) (s .alike) (may-arrive (sideOf d) (stateOf r) c v (s .alike) e))
       (octets-taken client (sideOf d) (fixedOf r) (stateOf r) xs (length bs) (length bc))
       (octets-taken server (sideOf d) (fixedOf r) (stateOf r) xs (length bs) (length bc)))
   makes r c v (ending d bs bc) s =
-      unless-refused (λ o. Makes f rules r c v (endIfDone (o .called .answer) (sideOf d)) o) r d _
+      unless-refused (λ o. Makes agree r c v (endIfDone (o .called .answer) (sideOf d)) o) r d _
       (λ a e. rw (refused-items a (sideOf d) e) (makes-nothing r c v a s))
       (λ e. makes-end r c v (sideOf d) s _)

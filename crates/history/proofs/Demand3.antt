@@ -20,7 +20,6 @@ use Rattle.rules.specs.ToClient.{
   inLine,
   passing as readPassing,
   ended as readEnded,
-  ClientState,
   ServerState,
   readToClient,
   toClient as readClient,
@@ -51,7 +50,7 @@ use Rattle.steps.specs.declared.Fixed.{Fixed}
 use Rattle.session.specs.Calls.{Outcome, freshSession, offset}
 use Rattle.places.specs.Places.{isHolding}
 use Rattle.records.specs.Sound.{sound, soundDirection}
-use Rattle.history.specs.ByOctets.{byOctets}
+use Rattle.history.specs.ByOctets.{Client, byOctets}
 use Rattle.history.specs.Gateway.{Fresh, outcomeOf, Promise, gateway}
 use Rattle.history.proofs.ByOctets.{by-octets}
 use Rattle.history.proofs.Places.{Stands, holding, flowing, passing, ended, Agrees}
@@ -82,17 +81,17 @@ silent-none readPassing = tt
 silent-none readEnded = refl
 
 module _ (f : Fixed) (rules : LineRules) (agree : Agrees f rules) where
-  record Holds (r : Session) (c : ClientState) (v : ServerState) (l : List (Made gateway)) (z : Session) : Type 0 where
+  record Holds (r : Session) (c : Client rules) (v : ServerState) (l : List (Made gateway)) (z : Session) : Type 0 where
     toServer : goneToServer gateway l ≡ toServerFrom rules c (historyOf gateway l)
     toClient : goneToClient gateway l ≡ readToClient rules c v (historyOf gateway l)
     silent : Silent (c .place) (historyOf gateway l)
     up : (t w : ℕ) → Counted (r .up) t w → Counted (z .up) (t + takenFrom client (historyOf gateway l)) (w + length (goneToServer gateway l))
     down : (t w : ℕ) → Counted (r .down) t w → Counted (z .down) (t + takenFrom server (historyOf gateway l)) (w + length (goneToClient gateway l))
-    lastClient : ClientState
+    lastClient : Client rules
     lastServer : ServerState
-    last : Stays f z lastClient lastServer
+    last : Stays agree z lastClient lastServer
 
-  holds-none : (r : Session) (c : ClientState) (v : ServerState) → Stays f r c v → Holds r c v [] r
+  holds-none : (r : Session) (c : Client rules) (v : ServerState) → Stays agree r c v → Holds r c v [] r
   unfolding byOctets readToClient textOf hasEnded choose
   holds-none r c v s =
       record {
@@ -106,8 +105,8 @@ module _ (f : Fixed) (rules : LineRules) (agree : Agrees f rules) where
         last = s;
       }
 
-  holds-next : (r z : Session) (c : ClientState) (v : ServerState) (call : Call) (t : Return Session) (l : List (Made gateway))
-      → Promise r call t → (m : Makes f rules r c v (itemsOf call (outcomeOf r call)) (outcomeOf r call))
+  holds-next : (r z : Session) (c : Client rules) (v : ServerState) (call : Call) (t : Return Session) (l : List (Made gateway))
+      → Promise r call t → (m : Makes agree r c v (itemsOf call (outcomeOf r call)) (outcomeOf r call))
       → Holds (outcomeOf r call .called .session) (m .done .client) (m .done .server) l z
       → Holds r c v ((call, t) ∷ l) z
   holds-next r z c v call t l p m h =
@@ -128,11 +127,11 @@ module _ (f : Fixed) (rules : LineRules) (agree : Agrees f rules) where
         last = h .last;
       }
 
-  holds : {r z : Session} {l : List (Made gateway)} → Calls gateway r l z → (c : ClientState) (v : ServerState) → Stays f r c v → Holds r c v l z
+  holds : {r z : Session} {l : List (Made gateway)} → Calls gateway r l z → (c : Client rules) (v : ServerState) → Stays agree r c v → Holds r c v l z
   holds {r} none c v s = holds-none r c v s
   holds (next {r = r} {z = z} {c = call} {t = t} {l = l} p rest) c v s =
-      let m : Makes f rules r c v (itemsOf call (outcomeOf r call)) (outcomeOf r call) = makes f rules agree r c v call s in
-      let now : Stays f (outcomeOf r call .called .session) (m .done .client) (m .done .server) =
+      let m : Makes agree r c v (itemsOf call (outcomeOf r call)) (outcomeOf r call) = makes f rules agree r c v call s in
+      let now : Stays agree (outcomeOf r call .called .session) (m .done .client) (m .done .server) =
       record { live = m .live; fixed = m .fixed; alike = m .done .alike } in
       holds-next r z c v call t l p m (rw (p .session) at (holds rest (m .done .client) (m .done .server) (rw (p .session) now)))
 
@@ -177,12 +176,13 @@ stands-sound (flowing k g) = refl
 stands-sound passing = refl
 stands-sound ended = refl
 
-stays-sound : (f : Fixed) (r : Session) (c : ClientState) (v : ServerState) → Stays f r c v → sound r ≡ true
+stays-sound : {f : Fixed} {rules : LineRules} (agree : Agrees f rules) (r : Session) (c : Client rules) (v : ServerState)
+    → Stays agree r c v → sound r ≡ true
 unfolding sound soundRecord soundDirection
-stays-sound f r c v s =
+stays-sound agree r c v s =
     let a = s .alike in
     rw (s .live, le-leb (r .control .owed) mostOwed (a .queue .array .most), a .queue .array .listed, stands-sound (a .client), stands-sound (a .server))
 
 pub records-sound : (su : Setup) (r z : Session) (l : List (Made gateway)) → Fresh su r → Calls gateway r l z → sound z ≡ true
 records-sound su r z l fresh calls =
-    let h = fresh-holds su r z l fresh calls in stays-sound (fixedBy su) z (h .lastClient) (h .lastServer) (h .last)
+    let h = fresh-holds su r z l fresh calls in stays-sound (agrees su) z (h .lastClient) (h .lastServer) (h .last)

@@ -57,9 +57,10 @@ pub agrees : (su : Setup) → Agrees (fixedBy su) (document01 su)
 unfolding clientLineOf
 agrees su =
     record {
-      gives = λ sw l. command-gives (su .mapped) l (command (su .client) (eprtSupported (su .flags)) sw l);
-      owes = λ sw l. refl;
-      switches = λ sw l. refl;
+      Tied = λ sw st. sw ≡ st;
+      gives = λ sw st e l. rw e (command-gives (su .mapped) l (command (su .client) (eprtSupported (su .flags)) st l));
+      owes = λ sw st e l. rw e;
+      after = λ sw st e l. rw e;
       final = λ k l. final-gives (su .mapped) k l;
     }
 
@@ -100,14 +101,14 @@ unfolding prepared setupAnswer choose
 fresh-is su r h = h .session ∙ rw (good-flags (badFlags (su .flags)) (h .answer))
 
 pub fresh-stays : (su : Setup)
-    → Stays (fixedBy su) (freshSession (su .client) (su .mapped) (su .flags)) (freshClient (setupSwitches (su .flags))) freshServer
-unfolding freshSession
+    → Stays (agrees su) (freshSession (su .client) (su .mapped) (su .flags)) (freshClient (setupSwitches (su .flags))) freshServer
+unfolding freshSession agrees
 fresh-stays su =
     record {
       live = refl;
       fixed = refl;
       alike = record {
-        switches = refl;
+        tied = refl;
         client = begins _;
         server = begins _;
         command = length-replicate (judged - 1) 0;

@@ -16,7 +16,6 @@ use Rattle.rules.specs.ToClient.{
   inLine,
   passing,
   ended,
-  ClientState,
   ServerState,
   placeAfter,
   finishes,
@@ -27,9 +26,8 @@ use Rattle.rules.specs.ToClient.{
   afterOctet,
   readToClient,
 }
-use Rattle.rules.specs.declared.Switches.{Switches}
 use Rattle.rules.specs.declared.Kind.{Kind}
-use Rattle.history.specs.ByOctets.{clientGives, byOctets}
+use Rattle.history.specs.ByOctets.{Client, clientGives, byOctets}
 
 -- the client has not ended
 abbrev pub Speaks : Place → Type 0
@@ -50,19 +48,19 @@ speaks-silent ended is h = absurd h
 
 module _ (rules : LineRules) where
   -- what goes to the server for the items from a state on
-  abbrev pub toServerFrom : ClientState → List Item → List ℕ
+  abbrev pub toServerFrom : Client rules → List Item → List ℕ
   toServerFrom c is = byOctets rules c (textOf client is) (hasEnded client is)
 
   -- items that lead from one state of the reading to another give ws to the server and wc to the client, whatever follows
-  pub record Does (c : ClientState) (v : ServerState) (is : List Item) (ws wc : List ℕ) (c′ : ClientState) (v′ : ServerState) : Type 0 where
+  pub record Does (c : Client rules) (v : ServerState) (is : List Item) (ws wc : List ℕ) (c′ : Client rules) (v′ : ServerState) : Type 0 where
     pub toServer : (js : List Item) → Silent (c′ .place) js → toServerFrom c (is ++ js) ≡ ws ++ toServerFrom c′ js
     pub toClient : (js : List Item) → readToClient rules c v (is ++ js) ≡ wc ++ readToClient rules c′ v′ js
     pub silent : (js : List Item) → Silent (c′ .place) js → Silent (c .place) (is ++ js)
 
-  pub does-nothing : (c : ClientState) (v : ServerState) → Does c v [] [] [] c v
+  pub does-nothing : (c : Client rules) (v : ServerState) → Does c v [] [] [] c v
   does-nothing c v = record { toServer = λ js h. refl; toClient = λ js. refl; silent = λ js h. h }
 
-  pub does-then : {c d e : ClientState} {u v w : ServerState} (is js : List Item) (ws wc xs xc : List ℕ)
+  pub does-then : {c d e : Client rules} {u v w : ServerState} (is js : List Item) (ws wc xs xc : List ℕ)
       → Does c u is ws wc d v → Does d v js xs xc e w → Does c u (is ++ js) (ws ++ xs) (wc ++ xc) e w
   does-then is js ws wc xs xc a b =
       record {
@@ -72,10 +70,10 @@ module _ (rules : LineRules) where
       }
 
   -- a client octet
-  pub does-client : (c : ClientState) (v : ServerState) (x : ℕ) → Speaks (c .place)
-      → let j = clientOctet rules (c .switches) (c .place) x in
+  pub does-client : (c : Client rules) (v : ServerState) (x : ℕ) → Speaks (c .place)
+      → let j = clientOctet rules (c .lineState) (c .place) x in
       let t = afterOctet (record { state = v; gives = [] }) (j .owes) in
-      Does c v (octet client x ∷ []) (clientGives rules (c .switches) (c .place) x) (t .gives) (j .state) (t .state)
+      Does c v (octet client x ∷ []) (clientGives rules (c .lineState) (c .place) x) (t .gives) (j .state) (t .state)
   unfolding byOctets readToClient textOf hasEnded
   does-client c v x h =
       record {
@@ -85,7 +83,7 @@ module _ (rules : LineRules) where
       }
 
   -- a server octet
-  pub does-server : (c : ClientState) (v : ServerState) (x : ℕ)
+  pub does-server : (c : Client rules) (v : ServerState) (x : ℕ)
       → let t = afterOctet (serverOctet rules (v .place) (v .owed) (v .unfinished) x) [] in
       Does c v (octet server x ∷ []) [] (t .gives) c (t .state)
   unfolding readToClient textOf hasEnded
@@ -96,18 +94,18 @@ module _ (rules : LineRules) where
       silent-server passing js k = tt
       silent-server ended js k = k
 
-  end-gives : (p : Place) (sw : Switches) (text : List ℕ) (b : Bool) → text ≡ []
-      → byOctets rules (record { switches = sw; place = p }) text true ≡ held p ++ byOctets rules (record { switches = sw; place = ended }) text b
+  end-gives : (p : Place) (st : rules .LineState) (text : List ℕ) (b : Bool) → text ≡ []
+      → byOctets rules (record { lineState = st; place = p }) text true ≡ held p ++ byOctets rules (record { lineState = st; place = ended }) text b
   unfolding byOctets choose held
-  end-gives p sw text true e = rw (e, append-nil (held p))
-  end-gives p sw text false e = rw (e, append-nil (held p))
+  end-gives p st text true e = rw (e, append-nil (held p))
+  end-gives p st text false e = rw (e, append-nil (held p))
 
   -- the client's end
-  pub does-client-end : (c : ClientState) (v : ServerState) → Does c v (end client ∷ []) (held (c .place)) [] (record { switches = c .switches; place = ended }) v
+  pub does-client-end : (c : Client rules) (v : ServerState) → Does c v (end client ∷ []) (held (c .place)) [] (record { lineState = c .lineState; place = ended }) v
   unfolding readToClient textOf hasEnded
   does-client-end c v =
       record {
-        toServer = λ js k. end-gives (c .place) (c .switches) (textOf client js) (hasEnded client js) k;
+        toServer = λ js k. end-gives (c .place) (c .lineState) (textOf client js) (hasEnded client js) k;
         toClient = λ js. refl;
         silent = λ js k. silent-end (c .place) js k;
       }
@@ -118,7 +116,7 @@ module _ (rules : LineRules) where
       silent-end ended js k = k
 
   -- the server's end
-  pub does-server-end : (c : ClientState) (v : ServerState)
+  pub does-server-end : (c : Client rules) (v : ServerState)
       → Does c v (end server ∷ []) [] (held (v .place)) c (record { place = ended; owed = v .owed; unfinished = v .unfinished })
   unfolding readToClient textOf hasEnded
   does-server-end c v = record { toServer = λ js k. refl; toClient = λ js. refl; silent = λ js k. silent-end (c .place) js k }
@@ -137,18 +135,18 @@ module _ (rules : LineRules) where
   speaks-after (Kind.Own a) = tt
   speaks-after Kind.Auth = tt
 
-  speaks-joins : (sw : Switches) (l : List ℕ) (a : Bool) → eqb (length l) judged && startsAuth l ≡ a → Speaks (joins sw l .state .place)
+  speaks-joins : (st : rules .LineState) (l : List ℕ) (a : Bool) → eqb (length l) judged && startsAuth l ≡ a → Speaks (joins st l .state .place)
   unfolding joins choose
-  speaks-joins sw l true e = rw e tt
-  speaks-joins sw l false e = rw e tt
+  speaks-joins st l true e = rw e tt
+  speaks-joins st l false e = rw e tt
 
-  speaks-line : (sw : Switches) (l : List ℕ) (x : ℕ) (b : Bool) → Speaks (choose b (finishes (finishedLine rules sw l)) (joins sw (l ++ (x ∷ []))) .state .place)
+  speaks-line : (st : rules .LineState) (l : List ℕ) (x : ℕ) (b : Bool) → Speaks (choose b (finishes (finishedLine rules st l)) (joins st (l ++ (x ∷ []))) .state .place)
   unfolding choose finishes
-  speaks-line sw l x true = speaks-after (finishedLine rules sw l .owes)
-  speaks-line sw l x false = speaks-joins sw (l ++ (x ∷ [])) (eqb (length (l ++ (x ∷ []))) judged && startsAuth (l ++ (x ∷ []))) refl
+  speaks-line st l x true = speaks-after (finishedLine rules st l .owes)
+  speaks-line st l x false = speaks-joins st (l ++ (x ∷ [])) (eqb (length (l ++ (x ∷ []))) judged && startsAuth (l ++ (x ∷ []))) refl
 
-  pub speaks-on : (sw : Switches) (p : Place) (x : ℕ) → Speaks p → Speaks (clientOctet rules sw p x .state .place)
+  pub speaks-on : (st : rules .LineState) (p : Place) (x : ℕ) → Speaks p → Speaks (clientOctet rules st p x .state .place)
   unfolding clientOctet
-  speaks-on sw (inLine l) x h = speaks-line sw l x (eqb x lf)
-  speaks-on sw passing x h = tt
-  speaks-on sw ended x h = absurd h
+  speaks-on st (inLine l) x h = speaks-line st l x (eqb x lf)
+  speaks-on st passing x h = tt
+  speaks-on st ended x h = absurd h

@@ -130,11 +130,17 @@ length-joined line n x f h = length-snoc (take n line) x ∙ rw (length-take-le 
 
 -- ---- line rules that the session's own page follows
 
--- what a line judged whole gives, owes and sets, and what a line that ends a final reply becomes
-pub record Agrees (f : Fixed) (rules : LineRules) : Type 0 where
-  pub gives : (sw : Switches) (l : List ℕ) → givesText (f .mapped) l lf (commandEffect (command (f .client) (f .supported) sw l)) ≡ rules .clientLine sw l .toServer
-  pub owes : (sw : Switches) (l : List ℕ) → commandOwes (command (f .client) (f .supported) sw l) ≡ rules .clientLine sw l .owes
-  pub switches : (sw : Switches) (l : List ℕ) → commandSwitches sw (command (f .client) (f .supported) sw l) ≡ rules .clientLine sw l .switches
+-- what a line judged whole gives, owes and leaves, and what a line that ends a final reply becomes.
+-- `Tied` is a relation that the proofs of lines, queue and offsets only hand on, so that the rules' state may hold more than
+-- the record's switches, such as ports that are still to be granted, or less
+pub record Agrees (f : Fixed) (rules : LineRules) : Type 1 where
+  pub Tied : Switches → rules .LineState → Type 0
+  pub gives : (sw : Switches) (st : rules .LineState) → Tied sw st → (l : List ℕ)
+      → givesText (f .mapped) l lf (commandEffect (command (f .client) (f .supported) sw l)) ≡ rules .clientLine st l .toServer
+  pub owes : (sw : Switches) (st : rules .LineState) → Tied sw st → (l : List ℕ)
+      → commandOwes (command (f .client) (f .supported) sw l) ≡ rules .clientLine st l .owes
+  pub after : (sw : Switches) (st : rules .LineState) → Tied sw st → (l : List ℕ)
+      → Tied (commandSwitches sw (command (f .client) (f .supported) sw l)) (rules .clientLine st l .after)
   pub final : (k : Kind) (l : List ℕ) → givesText (f .mapped) l lf (kindEffect k (content l)) ≡ rules .finalLine k l
 
 -- ---- the reply that a flowing line belongs to is known by its first four octets
@@ -145,14 +151,16 @@ reply-flowing line l h e = ap replyLine e ∙ sym (by-first-four l h)
 -- ---- one octet
 
 -- its effect on the record, and what it gives and does in the reading
-module _ (f : Fixed) where
-  pub record ClientFits (line : List ℕ) (n x : ℕ) (e : ClientEffect) (text : List ℕ) (j : ClientStep) : Type 0 where
+module _ {f : Fixed} {rules : LineRules} (agree : Agrees f rules) where
+  pub record ClientFits (line : List ℕ) (n x : ℕ) (e : ClientEffect) (text : List ℕ) (j : ClientStep (rules .LineState))
+      : Type 0 where
     pub gives : givesText (f .mapped) (take n line) x (e .gives) ≡ text
-    pub switches : e .switches ≡ j .state .switches
+    pub tied : agree .Tied (e .switches) (j .state .lineState)
     pub owes : owesList (e .owes) ≡ j .owes
     pub full : Full (stored line n x (e .gives))
     pub place : Stands NoAuth (e .direction .place) (e .direction .held) (stored line n x (e .gives)) (j .state .place)
 
+module _ (f : Fixed) where
   pub record ServerFits (line : List ℕ) (n x : ℕ) (ks : List Kind) (e : ServerEffect) (t : ServerStep) : Type 0 where
     pub gives : givesText (f .mapped) (take n line) x (e .gives) ≡ t .gives
     pub owed : drop (e .removes) ks ≡ t .state .owed
@@ -176,90 +184,92 @@ module _ (f : Fixed) (rules : LineRules) (agree : Agrees f rules) where
   after-line line true = passing
   after-line line false = begins line
 
-  command-fits : (sw : Switches) (line : List ℕ) (n : ℕ) → Full line → (k : Command) (j : ClientLine)
-      → givesText (f .mapped) (take n line) lf (commandEffect k) ≡ j .toServer → commandOwes k ≡ j .owes → commandSwitches sw k ≡ j .switches
-      → ClientFits f line n lf (judgedEffect sw k) (j .toServer) (finishes j)
+  command-fits : (sw : Switches) (line : List ℕ) (n : ℕ) → Full line → (k : Command) (j : ClientLine (rules .LineState))
+      → givesText (f .mapped) (take n line) lf (commandEffect k) ≡ j .toServer → commandOwes k ≡ j .owes
+      → agree .Tied (commandSwitches sw k) (j .after)
+      → ClientFits agree line n lf (judgedEffect sw k) (j .toServer) (finishes j)
   unfolding judgedEffect finishes
   command-fits sw line n full k j g o w =
       record {
         gives = g;
-        switches = w;
+        tied = w;
         owes = ap (λ (i : Kind). i ∷ []) o;
         full = rw (stored-command line n lf k) full;
         place = rw (stored-command line n lf k, o) (after-line line (isAuth (j .owes)));
       }
 
-  line-fits : (sw : Switches) (line : List ℕ) (n : ℕ) → Full line → n < judged
-      → ClientFits f line n lf (judgedEffect sw (command (f .client) (f .supported) sw (take n line)))
-      (lineEndGives rules sw (take n line)) (finishes (finishedLine rules sw (take n line)))
-  unfolding lineEndGives choose
-  line-fits sw line n full h =
-      let short : length (take n line) < judged = omega (arith, length-take-le n line (omega arith)) in
-      rw (finished-whole rules sw (take n line) short, whole (take n line) short)
-      (command-fits sw line n full (command (f .client) (f .supported) sw (take n line)) (rules .clientLine sw (take n line))
-      (agree .gives sw (take n line)) (agree .owes sw (take n line)) (agree .switches sw (take n line)))
+  module _ (sw : Switches) (st : rules .LineState) (tied : agree .Tied sw st) where
+    line-fits : (line : List ℕ) (n : ℕ) → Full line → n < judged
+        → ClientFits agree line n lf (judgedEffect sw (command (f .client) (f .supported) sw (take n line)))
+        (lineEndGives rules st (take n line)) (finishes (finishedLine rules st (take n line)))
+    unfolding lineEndGives choose
+    line-fits line n full h =
+        let short : length (take n line) < judged = omega (arith, length-take-le n line (omega arith)) in
+        rw (finished-whole rules st (take n line) short, whole (take n line) short)
+        (command-fits sw line n full (command (f .client) (f .supported) sw (take n line)) (rules .clientLine st (take n line))
+        (agree .gives sw st tied (take n line)) (agree .owes sw st tied (take n line)) (agree .after sw st tied (take n line)))
 
-  -- another octet, with which the line is not yet let go
-  held-fits : (sw : Switches) (line : List ℕ) (n x : ℕ) → Full line → n + 1 < judged
-      → ClientFits f line n x (clientEffectOf Gives.Held (at Place.Holding (n + 1)) sw Owes.Nothing)
-      (lineOctetGives (joined line n x) x) (joins sw (joined line n x))
-  unfolding lineOctetGives joins choose givesText stored
-  held-fits sw line n x full h =
-      let size : length (joined line n x) ≡ n + 1 = length-joined line n x full (omega arith) in
-      rw (whole (joined line n x) (omega arith), ne-eqb (length (joined line n x)) judged (λ q. omega arith))
-      (record { gives = refl; switches = refl; owes = refl; full = length-set line n x ∙ full; place = held-more line n x full h })
+    -- another octet, with which the line is not yet let go
+    held-fits : (line : List ℕ) (n x : ℕ) → Full line → n + 1 < judged
+        → ClientFits agree line n x (clientEffectOf Gives.Held (at Place.Holding (n + 1)) sw Owes.Nothing)
+        (lineOctetGives (joined line n x) x) (joins st (joined line n x))
+    unfolding lineOctetGives joins choose givesText stored
+    held-fits line n x full h =
+        let size : length (joined line n x) ≡ n + 1 = length-joined line n x full (omega arith) in
+        rw (whole (joined line n x) (omega arith), ne-eqb (length (joined line n x)) judged (λ q. omega arith))
+        (record { gives = refl; tied = tied; owes = refl; full = length-set line n x ∙ full; place = held-more line n x full h })
 
-  -- the octet that lets the line go, which may be AUTH
-  go-fits : (sw : Switches) (line : List ℕ) (n x : ℕ) → Full line → length (joined line n x) ≡ judged → (a : Bool) → startsAuth (joined line n x) ≡ a
-      → ClientFits f line n x
-      (choose a (clientEffectOf Gives.HeldAndOctet (at Place.Passing 0) sw (Owes.One Kind.Auth)) (clientEffectOf Gives.HeldAndOctet (at Place.Flowing 0) sw Owes.Nothing))
-      (lineOctetGives (joined line n x) x) (joins sw (joined line n x))
-  unfolding lineOctetGives joins choose givesText stored
-  go-fits sw line n x full size true e =
-      rw (long (joined line n x) (omega arith), eq-eqb (length (joined line n x)) judged size, e)
-      (record { gives = refl; switches = refl; owes = refl; full = full; place = passing })
-  go-fits sw line n x full size false e =
-      let flows : judged ≤ length (joined line n x) = omega arith in
-      rw (long (joined line n x) flows, eq-eqb (length (joined line n x)) judged size, e)
-      (record { gives = refl; switches = refl; owes = refl; full = full; place = flowing flows e })
+    -- the octet that lets the line go, which may be AUTH
+    go-fits : (line : List ℕ) (n x : ℕ) → Full line → length (joined line n x) ≡ judged → (a : Bool) → startsAuth (joined line n x) ≡ a
+        → ClientFits agree line n x
+        (choose a (clientEffectOf Gives.HeldAndOctet (at Place.Passing 0) sw (Owes.One Kind.Auth)) (clientEffectOf Gives.HeldAndOctet (at Place.Flowing 0) sw Owes.Nothing))
+        (lineOctetGives (joined line n x) x) (joins st (joined line n x))
+    unfolding lineOctetGives joins choose givesText stored
+    go-fits line n x full size true e =
+        rw (long (joined line n x) (omega arith), eq-eqb (length (joined line n x)) judged size, e)
+        (record { gives = refl; tied = tied; owes = refl; full = full; place = passing })
+    go-fits line n x full size false e =
+        let flows : judged ≤ length (joined line n x) = omega arith in
+        rw (long (joined line n x) flows, eq-eqb (length (joined line n x)) judged size, e)
+        (record { gives = refl; tied = tied; owes = refl; full = full; place = flowing flows e })
 
-  join-fits : (sw : Switches) (line : List ℕ) (n x : ℕ) → Full line → n < judged → (b : Bool) → ltb (n + 1) judged ≡ b
-      → ClientFits f line n x (joinEffect sw n (take n line)) (lineOctetGives (joined line n x) x) (joins sw (joined line n x))
-  unfolding joinEffect choose
-  join-fits sw line n x full h true p = rw p (held-fits sw line n x full (ltb-true (n + 1) judged p))
-  join-fits sw line n x full h false p =
-      let last : n + 1 ≡ judged = omega (arith, ltb-false (n + 1) judged p) in
-      rw p (go-fits sw line n x full (length-joined line n x full h ∙ last) (startsAuth (take n line))
-      (starts (take n line) (x ∷ []) (omega (arith, six, length-take-le n line (omega arith)))))
+    join-fits : (line : List ℕ) (n x : ℕ) → Full line → n < judged → (b : Bool) → ltb (n + 1) judged ≡ b
+        → ClientFits agree line n x (joinEffect sw n (take n line)) (lineOctetGives (joined line n x) x) (joins st (joined line n x))
+    unfolding joinEffect choose
+    join-fits line n x full h true p = rw p (held-fits line n x full (ltb-true (n + 1) judged p))
+    join-fits line n x full h false p =
+        let last : n + 1 ≡ judged = omega (arith, ltb-false (n + 1) judged p) in
+        rw p (go-fits line n x full (length-joined line n x full h ∙ last) (startsAuth (take n line))
+        (starts (take n line) (x ∷ []) (omega (arith, six, length-take-le n line (omega arith)))))
 
-  held-octet-fits : (sw : Switches) (line : List ℕ) (n x : ℕ) → Full line → n < judged → (b : Bool) → eqb x lf ≡ b
-      → ClientFits f line n x (placeEffect (f .client) (f .supported) sw Place.Holding n (take n line) b)
-      (choose b (lineEndGives rules sw (take n line)) (lineOctetGives (joined line n x) x))
-      (choose b (finishes (finishedLine rules sw (take n line))) (joins sw (joined line n x)))
-  unfolding placeEffect choose
-  held-octet-fits sw line n x full h true p = rw (eqb-true x lf p) (line-fits sw line n full h)
-  held-octet-fits sw line n x full h false p = join-fits sw line n x full h (ltb (n + 1) judged) refl
+    held-octet-fits : (line : List ℕ) (n x : ℕ) → Full line → n < judged → (b : Bool) → eqb x lf ≡ b
+        → ClientFits agree line n x (placeEffect (f .client) (f .supported) sw Place.Holding n (take n line) b)
+        (choose b (lineEndGives rules st (take n line)) (lineOctetGives (joined line n x) x))
+        (choose b (finishes (finishedLine rules st (take n line))) (joins st (joined line n x)))
+    unfolding placeEffect choose
+    held-octet-fits line n x full h true p = rw (eqb-true x lf p) (line-fits line n full h)
+    held-octet-fits line n x full h false p = join-fits line n x full h (ltb (n + 1) judged) refl
 
-  flowing-fits : (sw : Switches) (line l : List ℕ) (x : ℕ) → Full line → judged ≤ length l → startsAuth l ≡ false → (b : Bool) → eqb x lf ≡ b
-      → ClientFits f line 0 x (placeEffect (f .client) (f .supported) sw Place.Flowing 0 [] b)
-      (choose b (lineEndGives rules sw l) (lineOctetGives (l ++ (x ∷ [])) x))
-      (choose b (finishes (finishedLine rules sw l)) (joins sw (l ++ (x ∷ []))))
-  unfolding placeEffect choose lineEndGives finishes longOwes lineOctetGives joins givesText stored
-  flowing-fits sw line l x full k a true p =
-      rw (finished-long rules sw l k, long l k, a, eqb-true x lf p)
-      (record { gives = refl; switches = refl; owes = refl; full = full; place = begins line })
-  flowing-fits sw line l x full k a false p =
-      let more : judged ≤ length (l ++ (x ∷ [])) = grows l (x ∷ []) k in
-      rw (long (l ++ (x ∷ [])) more, ne-eqb (length (l ++ (x ∷ []))) judged (λ q. omega (arith, length-snoc l x)))
-      (record { gives = refl; switches = refl; owes = refl; full = full; place = flowing more (starts l (x ∷ []) (omega (arith, six)) ∙ a) })
+    flowing-fits : (line l : List ℕ) (x : ℕ) → Full line → judged ≤ length l → startsAuth l ≡ false → (b : Bool) → eqb x lf ≡ b
+        → ClientFits agree line 0 x (placeEffect (f .client) (f .supported) sw Place.Flowing 0 [] b)
+        (choose b (lineEndGives rules st l) (lineOctetGives (l ++ (x ∷ [])) x))
+        (choose b (finishes (finishedLine rules st l)) (joins st (l ++ (x ∷ []))))
+    unfolding placeEffect choose lineEndGives finishes longOwes lineOctetGives joins givesText stored
+    flowing-fits line l x full k a true p =
+        rw (finished-long rules st l k, long l k, a, eqb-true x lf p)
+        (record { gives = refl; tied = tied; owes = refl; full = full; place = begins line })
+    flowing-fits line l x full k a false p =
+        let more : judged ≤ length (l ++ (x ∷ [])) = grows l (x ∷ []) k in
+        rw (long (l ++ (x ∷ [])) more, ne-eqb (length (l ++ (x ∷ []))) judged (λ q. omega (arith, length-snoc l x)))
+        (record { gives = refl; tied = tied; owes = refl; full = full; place = flowing more (starts l (x ∷ []) (omega (arith, six)) ∙ a) })
 
-  pub client-fits : (sw : Switches) {p : Place} {n : ℕ} {line : List ℕ} {q : Reading} → Stands NoAuth p n line q → Full line → (x : ℕ)
-      → ClientFits f line n x (placeEffect (f .client) (f .supported) sw p n (take n line) (eqb x lf)) (clientGives rules sw q x) (clientOctet rules sw q x)
-  unfolding clientGives clientOctet placeEffect givesText stored
-  client-fits sw (holding {n = n} {line = line} h) full x = held-octet-fits sw line n x full h (eqb x lf) refl
-  client-fits sw (flowing {line = line} {l = l} k a) full x = flowing-fits sw line l x full k a (eqb x lf) refl
-  client-fits sw passing full x = record { gives = refl; switches = refl; owes = refl; full = full; place = passing }
-  client-fits sw ended full x = record { gives = refl; switches = refl; owes = refl; full = full; place = ended }
+    pub client-fits : {p : Place} {n : ℕ} {line : List ℕ} {q : Reading} → Stands NoAuth p n line q → Full line → (x : ℕ)
+        → ClientFits agree line n x (placeEffect (f .client) (f .supported) sw p n (take n line) (eqb x lf)) (clientGives rules st q x) (clientOctet rules st q x)
+    unfolding clientGives clientOctet placeEffect givesText stored
+    client-fits (holding {n = n} {line = line} h) full x = held-octet-fits line n x full h (eqb x lf) refl
+    client-fits (flowing {line = line} {l = l} k a) full x = flowing-fits line l x full k a (eqb x lf) refl
+    client-fits passing full x = record { gives = refl; tied = tied; owes = refl; full = full; place = passing }
+    client-fits ended full x = record { gives = refl; tied = tied; owes = refl; full = full; place = ended }
 
   -- ---- of the server
 

@@ -23,7 +23,6 @@ use Rattle.rules.specs.ToClient.{
   ownAnswers,
   afterOctet,
 }
-use Rattle.rules.specs.declared.Switches.{Switches}
 use Rattle.places.specs.declared.Direction.{Direction}
 use Rattle.queue.specs.declared.Owes.{Owes}
 use Rattle.upstream.specs.declared.ClientEffect.{ClientEffect}
@@ -38,7 +37,7 @@ use Rattle.steps.specs.Takes.{Took, stopOf, takes}
 use Rattle.session.specs.Calls.{endStep}
 use Rattle.steps.proofs.Stops.{stop-none, unless-stopped}
 use Rattle.steps.proofs.Turns.{place-owed}
-use Rattle.history.specs.ByOctets.{clientGives}
+use Rattle.history.specs.ByOctets.{Client, clientGives}
 use Rattle.history.proofs.Queue.{Queue, RoomFor, queue-push, queue-first, firstOf}
 use Rattle.history.proofs.Places.{
   Stands,
@@ -67,14 +66,15 @@ use Rattle.history.proofs.Items.{
 }
 
 -- the record's part that octets change, and the states of the reading
-pub record Alike (s : State) (c : ClientState) (v : ServerState) : Type 0 where
-  pub switches : s .control .switches ≡ c .switches
-  pub client : Stands NoAuth (s .control .client .place) (s .control .client .held) (s .command) (c .place)
-  pub server : Stands FirstFour (s .control .server .place) (s .control .server .held) (s .reply) (v .place)
-  pub command : Full (s .command)
-  pub reply : Full (s .reply)
-  pub queue : Queue (s .kinds) (s .control .owed) (v .owed)
-  pub unfinished : s .control .unfinished ≡ v .unfinished
+module _ {f : Fixed} {rules : LineRules} (agree : Agrees f rules) where
+  pub record Alike (s : State) (c : Client rules) (v : ServerState) : Type 0 where
+    pub tied : agree .Tied (s .control .switches) (c .lineState)
+    pub client : Stands NoAuth (s .control .client .place) (s .control .client .held) (s .command) (c .place)
+    pub server : Stands FirstFour (s .control .server .place) (s .control .server .held) (s .reply) (v .place)
+    pub command : Full (s .command)
+    pub reply : Full (s .reply)
+    pub queue : Queue (s .kinds) (s .control .owed) (v .owed)
+    pub unfinished : s .control .unfinished ≡ v .unfinished
 
 -- ---- room in the queue
 
@@ -93,34 +93,34 @@ room f s x most e =
     (place-owed (f .client) (f .supported) (s .control .switches) (d .place) (d .held) (take (d .held) (s .command)) (eqb x lf) (s .control .owed) most e)
 
 -- the side that arrives has not ended
-abbrev pub MaySpeak : Side → ClientState → Type 0
+abbrev pub MaySpeak : {S : Type 0} → Side → ClientState S → Type 0
 MaySpeak client c = Speaks (c .place)
 MaySpeak server c = Unit {0}
 
 -- ---- items done
 
-module _ (rules : LineRules) where
+module _ {f : Fixed} {rules : LineRules} (agree : Agrees f rules) where
   -- items done from one state on, and the state then
-  pub record Done (c : ClientState) (v : ServerState) (is : List Item) (ws wc : List ℕ) (z : State) : Type 0 where
-    pub client : ClientState
+  pub record Done (c : Client rules) (v : ServerState) (is : List Item) (ws wc : List ℕ) (z : State) : Type 0 where
+    pub client : Client rules
     pub server : ServerState
     pub does : Does rules c v is ws wc client server
-    pub alike : Alike z client server
+    pub alike : Alike agree z client server
 
   -- octets do not end the client
-  pub record Octets (c : ClientState) (v : ServerState) (is : List Item) (ws wc : List ℕ) (z : State) : Type 0 where
+  pub record Octets (c : Client rules) (v : ServerState) (is : List Item) (ws wc : List ℕ) (z : State) : Type 0 where
     pub done : Done c v is ws wc z
     pub speaks : Speaks (c .place) → Speaks (done .client .place)
 
-  may-speak : (d : Side) (c : ClientState) (v : ServerState) (is : List Item) (ws wc : List ℕ) (z : State) (o : Octets c v is ws wc z)
+  may-speak : (d : Side) (c : Client rules) (v : ServerState) (is : List Item) (ws wc : List ℕ) (z : State) (o : Octets c v is ws wc z)
       → MaySpeak d c → MaySpeak d (o .done .client)
   may-speak client c v is ws wc z o h = o .speaks h
   may-speak server c v is ws wc z o h = tt
 
-  pub done-nothing : {s : State} {c : ClientState} {v : ServerState} → Alike s c v → Done c v [] [] [] s
+  pub done-nothing : {s : State} {c : Client rules} {v : ServerState} → Alike agree s c v → Done c v [] [] [] s
   done-nothing {s} {c} {v} a = record { client = c; server = v; does = does-nothing rules c v; alike = a }
 
-  done-then : {c : ClientState} {v : ServerState} {y z : State} (is js : List Item) (ws wc xs xc : List ℕ) (p : Done c v is ws wc y)
+  done-then : {c : Client rules} {v : ServerState} {y z : State} (is js : List Item) (ws wc xs xc : List ℕ) (p : Done c v is ws wc y)
       → Done (p .client) (p .server) js xs xc z → Done c v (is ++ js) (ws ++ xs) (wc ++ xc) z
   done-then is js ws wc xs xc p q =
       record { client = q .client; server = q .server; does = does-then rules is js ws wc xs xc (p .does) (q .does); alike = q .alike }
@@ -128,19 +128,14 @@ module _ (rules : LineRules) where
 -- ---- one octet
 
 module _ (f : Fixed) (rules : LineRules) (agree : Agrees f rules) where
-  -- an octet's effect, from the switches, the first kind and the unfinished reply as the reading has them
-  client-effect : (s : State) (c : ClientState) (v : ServerState) (x : ℕ) → Alike s c v
-      → ClientFits f (s .command) (s .control .client .held) x (clientEffectIn f s x)
-      (clientGives rules (c .switches) (c .place) x) (clientOctet rules (c .switches) (c .place) x)
+  -- an octet's effect, from the state of the rules, the first kind and the unfinished reply as the reading has them
+  client-effect : (s : State) (c : Client rules) (v : ServerState) (x : ℕ) → Alike agree s c v
+      → ClientFits agree (s .command) (s .control .client .held) x (clientEffectIn f s x)
+      (clientGives rules (c .lineState) (c .place) x) (clientOctet rules (c .lineState) (c .place) x)
   unfolding clientEffectIn clientEffect
-  client-effect s c v x a = by-switches (s .control .switches) (c .switches) (a .switches)
-    where
-      by-switches : (sw sw′ : Switches) → sw ≡ sw′
-          → ClientFits f (s .command) (s .control .client .held) x (clientEffect (f .client) (f .supported) sw (s .control .client) (s .command) x)
-          (clientGives rules sw′ (c .place) x) (clientOctet rules sw′ (c .place) x)
-      by-switches sw sw′ e = rw e (client-fits f rules agree sw′ (a .client) (a .command) x)
+  client-effect s c v x a = client-fits f rules agree (s .control .switches) (c .lineState) (a .tied) (a .client) (a .command) x
 
-  server-effect : (s : State) (c : ClientState) (v : ServerState) (x : ℕ) → Alike s c v
+  server-effect : (s : State) (c : Client rules) (v : ServerState) (x : ℕ) → Alike agree s c v
       → ServerFits f (s .reply) (s .control .server .held) x (v .owed) (serverEffectIn s x)
       (serverOctet rules (v .place) (v .owed) (v .unfinished) x)
   unfolding serverEffectIn serverEffect
@@ -151,14 +146,14 @@ module _ (f : Fixed) (rules : LineRules) (agree : Agrees f rules) where
           (serverOctet rules (v .place) (v .owed) u′ x)
       by-queue u u′ o e g = rw (e, g) (server-fits f rules agree u′ (v .owed) (a .server) (a .reply) x)
 
-  client-does : (s : State) (c : ClientState) (v : ServerState) (x : ℕ) → Alike s c v → Speaks (c .place)
+  client-does : (s : State) (c : Client rules) (v : ServerState) (x : ℕ) → Alike agree s c v → Speaks (c .place)
       → isQueueFull client (isPassing (s .control .client .place)) (s .control .owed) ≡ false
-      → Octets rules c v (octet client x ∷ []) (clientStep f s x .toServer) (clientStep f s x .toClient) (clientStep f s x .state)
+      → Octets agree c v (octet client x ∷ []) (clientStep f s x .toServer) (clientStep f s x .toClient) (clientStep f s x .state)
   unfolding clientStep clientState settledState afterOctet
   client-does s c v x a speaks notFull =
       let e : ClientEffect = clientEffectIn f s x in
-      let j : ClientStep = clientOctet rules (c .switches) (c .place) x in
-      let fit : ClientFits f (s .command) (s .control .client .held) x e (clientGives rules (c .switches) (c .place) x) j = client-effect s c v x a in
+      let j : ClientStep (rules .LineState) = clientOctet rules (c .lineState) (c .place) x in
+      let fit : ClientFits agree (s .command) (s .control .client .held) x e (clientGives rules (c .lineState) (c .place) x) j = client-effect s c v x a in
       let t : State = clientState s x e in
       let queue : Queue (t .kinds) (t .control .owed) (v .owed ++ j .owes) = rw (fit .owes) at (queue-push (a .queue) (e .owes) (room f s x (a .queue .array .most) notFull)) in
       let done : Settled t 0 [] (authStep (ownAnswers (v .place) (v .owed ++ j .owes) (v .unfinished) [])) =
@@ -169,7 +164,7 @@ module _ (f : Fixed) (rules : LineRules) (agree : Agrees f rules) where
           server = afterOctet (record { state = v; gives = [] }) (j .owes) .state;
           does = rw (fit .gives, done .gives) (does-client rules c v x speaks);
           alike = record {
-            switches = fit .switches;
+            tied = fit .tied;
             client = fit .place;
             server = done .server;
             command = fit .full;
@@ -178,11 +173,11 @@ module _ (f : Fixed) (rules : LineRules) (agree : Agrees f rules) where
             unfinished = done .unfinished;
           };
         };
-        speaks = speaks-on rules (c .switches) (c .place) x;
+        speaks = speaks-on rules (c .lineState) (c .place) x;
       }
 
-  server-does : (s : State) (c : ClientState) (v : ServerState) (x : ℕ) → Alike s c v
-      → Octets rules c v (octet server x ∷ []) (serverStep f s x .toServer) (serverStep f s x .toClient) (serverStep f s x .state)
+  server-does : (s : State) (c : Client rules) (v : ServerState) (x : ℕ) → Alike agree s c v
+      → Octets agree c v (octet server x ∷ []) (serverStep f s x .toServer) (serverStep f s x .toClient) (serverStep f s x .state)
   unfolding serverStep serverState settledState afterOctet
   server-does s c v x a =
       let e : ServerEffect = serverEffectIn s x in
@@ -198,7 +193,7 @@ module _ (f : Fixed) (rules : LineRules) (agree : Agrees f rules) where
           server = afterOctet r [] .state;
           does = rw (fit .gives, done .gives) (does-server rules c v x);
           alike = record {
-            switches = a .switches;
+            tied = a .tied;
             client = a .client;
             server = done .server;
             command = a .command;
@@ -210,41 +205,41 @@ module _ (f : Fixed) (rules : LineRules) (agree : Agrees f rules) where
         speaks = λ h. h;
       }
 
-  octet-does : (d : Side) (s : State) (c : ClientState) (v : ServerState) (x : ℕ) → Alike s c v → MaySpeak d c
+  octet-does : (d : Side) (s : State) (c : Client rules) (v : ServerState) (x : ℕ) → Alike agree s c v → MaySpeak d c
       → isQueueFull d (isPassing (s .control .client .place)) (s .control .owed) ≡ false
-      → Octets rules c v (octet d x ∷ []) (octetStep f d s x .toServer) (octetStep f d s x .toClient) (octetStep f d s x .state)
+      → Octets agree c v (octet d x ∷ []) (octetStep f d s x .toServer) (octetStep f d s x .toClient) (octetStep f d s x .state)
   unfolding octetStep
   octet-does client s c v x a speaks notFull = client-does s c v x a speaks notFull
   octet-does server s c v x a speaks notFull = server-does s c v x a
 
   -- ---- the octets of an arrival
 
-  pub takes-does : (d : Side) (s : State) (c : ClientState) (v : ServerState) (xs : List ℕ) (rs rc : ℕ) → Alike s c v → MaySpeak d c
-      → let t = takes f d s xs rs rc in Done rules c v (map (octet d) (take (t .taken) xs)) (t .toServer) (t .toClient) (t .state)
+  pub takes-does : (d : Side) (s : State) (c : Client rules) (v : ServerState) (xs : List ℕ) (rs rc : ℕ) → Alike agree s c v → MaySpeak d c
+      → let t = takes f d s xs rs rc in Done agree c v (map (octet d) (take (t .taken) xs)) (t .toServer) (t .toClient) (t .state)
   unfolding takes stopOf
-  takes-does d s c v [] rs rc a m = done-nothing rules a
+  takes-does d s c v [] rs rc a m = done-nothing agree a
   takes-does d s c v (x ∷ xs) rs rc a m =
       let t : Step = octetStep f d s x in
-      let P : Took → Type 0 = λ r. Done rules c v (map (octet d) (take (r .taken) (x ∷ xs))) (r .toServer) (r .toClient) (r .state) in
-      unless-stopped P (stopOf d s t rs rc) s _ (λ n e. done-nothing rules a)
-      (λ e. let o : Octets rules c v (octet d x ∷ []) (t .toServer) (t .toClient) (t .state) =
+      let P : Took → Type 0 = λ r. Done agree c v (map (octet d) (take (r .taken) (x ∷ xs))) (r .toServer) (r .toClient) (r .state) in
+      unless-stopped P (stopOf d s t rs rc) s _ (λ n e. done-nothing agree a)
+      (λ e. let o : Octets agree c v (octet d x ∷ []) (t .toServer) (t .toClient) (t .state) =
       octet-does d s c v x a m (stop-none _ (fits (t .toServer) (t .toClient) rs rc) e .0) in
-      done-then rules (octet d x ∷ []) _ (t .toServer) (t .toClient) _ _ (o .done)
+      done-then agree (octet d x ∷ []) _ (t .toServer) (t .toClient) _ _ (o .done)
       (takes-does d (t .state) (o .done .client) (o .done .server) xs (rs - length (t .toServer)) (rc - length (t .toClient)) (o .done .alike)
-      (may-speak rules d c v _ _ _ _ o m)))
+      (may-speak agree d c v _ _ _ _ o m)))
 
   -- ---- an end
 
-  pub end-does : (d : Side) (s : State) (c : ClientState) (v : ServerState) → Alike s c v
-      → Done rules c v (end d ∷ []) (endStep d s .toServer) (endStep d s .toClient) (endStep d s .state)
+  pub end-does : (d : Side) (s : State) (c : Client rules) (v : ServerState) → Alike agree s c v
+      → Done agree c v (end d ∷ []) (endStep d s .toServer) (endStep d s .toClient) (endStep d s .state)
   unfolding endStep
   end-does client s c v a =
       record {
-        client = record { switches = c .switches; place = readEnded };
+        client = record { lineState = c .lineState; place = readEnded };
         server = v;
         does = rw (held-octets (a .client) (a .command)) (does-client-end rules c v);
         alike = record {
-          switches = a .switches;
+          tied = a .tied;
           client = ended;
           server = a .server;
           command = a .command;
@@ -259,7 +254,7 @@ module _ (f : Fixed) (rules : LineRules) (agree : Agrees f rules) where
         server = record { place = readEnded; owed = v .owed; unfinished = v .unfinished };
         does = rw (held-octets (a .server) (a .reply)) (does-server-end rules c v);
         alike = record {
-          switches = a .switches;
+          tied = a .tied;
           client = a .client;
           server = ended;
           command = a .command;

@@ -7,26 +7,29 @@ use Rattle.rules.specs.Octets.{lf, choose}
 use Rattle.rules.specs.Lines.{isWhole}
 use Rattle.rules.specs.Edition.{LineRules}
 use Rattle.rules.specs.ToClient.{Place, inLine, passing, ended, ClientState, clientOctet, lineOctetGives, held}
-use Rattle.rules.specs.declared.Switches.{Switches}
+
+-- the client's side of the reading by given rules
+abbrev pub Client : LineRules → Type 0
+Client rules = ClientState (rules .LineState)
 
 -- the LF of a line: what a line judged whole becomes, or the LF of a flowing one
-unfoldable pub lineEndGives : LineRules → Switches → List ℕ → List ℕ
-lineEndGives rules sw l = choose (isWhole l) (rules .clientLine sw l .toServer) (lf ∷ [])
+unfoldable pub lineEndGives : (rules : LineRules) → rules .LineState → List ℕ → List ℕ
+lineEndGives rules st l = choose (isWhole l) (rules .clientLine st l .toServer) (lf ∷ [])
 
 -- what a client octet gives to the server
-unfoldable pub clientGives : LineRules → Switches → Place → ℕ → List ℕ
-clientGives rules sw (inLine l) x = choose (eqb x lf) (lineEndGives rules sw l) (lineOctetGives (l ++ (x ∷ [])) x)
-clientGives rules sw passing x = x ∷ []
-clientGives rules sw ended x = []
+unfoldable pub clientGives : (rules : LineRules) → rules .LineState → Place → ℕ → List ℕ
+clientGives rules st (inLine l) x = choose (eqb x lf) (lineEndGives rules st l) (lineOctetGives (l ++ (x ∷ [])) x)
+clientGives rules st passing x = x ∷ []
+clientGives rules st ended x = []
 
 -- what a client's text gives from a state on, and at its end the octets held
-unfoldable pub byOctets : LineRules → ClientState → List ℕ → Bool → List ℕ
+unfoldable pub byOctets : (rules : LineRules) → Client rules → List ℕ → Bool → List ℕ
 byOctets rules c [] atEnd = choose atEnd (held (c .place)) []
 byOctets rules c (x ∷ xs) atEnd =
-    let next = clientOctet rules (c .switches) (c .place) x .state in
-    clientGives rules (c .switches) (c .place) x ++ byOctets rules next xs atEnd
+    let next = clientOctet rules (c .lineState) (c .place) x .state in
+    clientGives rules (c .lineState) (c .place) x ++ byOctets rules next xs atEnd
 
 -- the client's state after a text
-unfoldable pub clientAfter : LineRules → ClientState → List ℕ → ClientState
+unfoldable pub clientAfter : (rules : LineRules) → Client rules → List ℕ → Client rules
 clientAfter rules c [] = c
-clientAfter rules c (x ∷ xs) = clientAfter rules (clientOctet rules (c .switches) (c .place) x .state) xs
+clientAfter rules c (x ∷ xs) = clientAfter rules (clientOctet rules (c .lineState) (c .place) x .state) xs

@@ -12,7 +12,6 @@ use Rattle.rules.specs.Replies.{isAuth, replyLine, leavesUnfinished, owe
 use Rattle.rules.specs.Edition.{ClientLine, LineRules, document01}
 use Rattle.rules.specs.History.{Item, octet, end}
 use Rattle.rules.specs.ToServer.{finishedLine}
-use Rattle.rules.specs.declared.Switches.{Switches}
 use Rattle.rules.specs.declared.Kind.{Kind}
 use Rattle.rules.specs.declared.ReplyLine.{ReplyLine}
 use Rattle.rules.specs.declared.ReplyLine.the-variants.{GoesOn, Preliminary, Final}
@@ -23,9 +22,10 @@ pub data Place : Type 0 where
   passing : Place
   ended : Place
 
--- "State: the switches, each side's unfinished line, the kinds owed .., whether a reply is unfinished, which sides ended or pass at once"
-pub record ClientState : Type 0 where
-  pub switches : Switches
+-- "State: the switches, each side's unfinished line, the kinds owed .., whether a reply is unfinished, which sides ended or pass at once".
+-- The switches are document 01's state of the line rules
+pub record ClientState (S : Type 0) : Type 0 where
+  pub lineState : S
   pub place : Place
 
 pub record ServerState : Type 0 where
@@ -35,29 +35,29 @@ pub record ServerState : Type 0 where
 
 -- ---- a client octet: the client's state after it, and the kinds that it puts on the queue
 
-pub record ClientStep : Type 0 where
-  pub state : ClientState
+pub record ClientStep (S : Type 0) : Type 0 where
+  pub state : ClientState S
   pub owes : List Kind
 
 abbrev pub placeAfter : Kind → Place
 placeAfter k = choose (isAuth k) passing (inLine [])
 
 -- "where it finishes one before AUTH"
-unfoldable pub finishes : ClientLine → ClientStep
-finishes j = record { state = record { switches = j .switches; place = placeAfter (j .owes) }; owes = j .owes ∷ [] }
+unfoldable pub finishes : {S : Type 0} → ClientLine S → ClientStep S
+finishes j = record { state = record { lineState = j .after; place = placeAfter (j .owes) }; owes = j .owes ∷ [] }
 
 -- "or makes it AUTH": by the octet that lets a long line go
-unfoldable pub joins : Switches → List ℕ → ClientStep
-joins sw l =
+unfoldable pub joins : {S : Type 0} → S → List ℕ → ClientStep S
+joins st l =
     choose (eqb (length l) judged && startsAuth l)
-    (record { state = record { switches = sw; place = passing }; owes = Kind.Auth ∷ [] })
-    (record { state = record { switches = sw; place = inLine l }; owes = [] })
+    (record { state = record { lineState = st; place = passing }; owes = Kind.Auth ∷ [] })
+    (record { state = record { lineState = st; place = inLine l }; owes = [] })
 
 -- "A client octet joins its line"
-unfoldable pub clientOctet : LineRules → Switches → Place → ℕ → ClientStep
-clientOctet rules sw (inLine l) x = choose (eqb x lf) (finishes (finishedLine rules sw l)) (joins sw (l ++ (x ∷ [])))
-clientOctet rules sw passing x = record { state = record { switches = sw; place = passing }; owes = [] }
-clientOctet rules sw ended x = record { state = record { switches = sw; place = ended }; owes = [] }
+unfoldable pub clientOctet : (rules : LineRules) → rules .LineState → Place → ℕ → ClientStep (rules .LineState)
+clientOctet rules st (inLine l) x = choose (eqb x lf) (finishes (finishedLine rules st l)) (joins st (l ++ (x ∷ [])))
+clientOctet rules st passing x = record { state = record { lineState = st; place = passing }; owes = [] }
+clientOctet rules st ended x = record { state = record { lineState = st; place = ended }; owes = [] }
 
 -- ---- a server octet: what it gives, and the server's state after it
 
@@ -138,16 +138,16 @@ afterOctet t new = let s = t .state in authStep (ownAnswers (s .place) (s .owed 
 
 -- ---- the whole history
 
-unfoldable pub readToClient : LineRules → ClientState → ServerState → List Item → List ℕ
+unfoldable pub readToClient : (rules : LineRules) → ClientState (rules .LineState) → ServerState → List Item → List ℕ
 readToClient rules c s [] = []
 readToClient rules c s (octet client x ∷ is) =
-    let j = clientOctet rules (c .switches) (c .place) x in
+    let j = clientOctet rules (c .lineState) (c .place) x in
     let t = afterOctet (record { state = s; gives = [] }) (j .owes) in
     t .gives ++ readToClient rules (j .state) (t .state) is
 readToClient rules c s (octet server x ∷ is) =
     let t = afterOctet (serverOctet rules (s .place) (s .owed) (s .unfinished) x) [] in
     t .gives ++ readToClient rules c (t .state) is
-readToClient rules c s (end client ∷ is) = readToClient rules (record { switches = c .switches; place = ended }) s is
+readToClient rules c s (end client ∷ is) = readToClient rules (record { lineState = c .lineState; place = ended }) s is
 readToClient rules c s (end server ∷ is) =
     held (s .place) ++ readToClient rules c (record { place = ended; owed = s .owed; unfinished = s .unfinished }) is
 
@@ -155,8 +155,8 @@ readToClient rules c s (end server ∷ is) =
 abbrev pub freshServer : ServerState
 freshServer = record { place = inLine []; owed = Kind.Plain ∷ []; unfinished = false }
 
-abbrev pub freshClient : Switches → ClientState
-freshClient sw = record { switches = sw; place = inLine [] }
+abbrev pub freshClient : {S : Type 0} → S → ClientState S
+freshClient st = record { lineState = st; place = inLine [] }
 
 -- what has gone to the client after a setup, by the history
 unfoldable pub toClient : Setup → List Item → List ℕ

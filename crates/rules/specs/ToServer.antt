@@ -8,7 +8,6 @@ use Rattle.rules.specs.Setup.{Setup, setupSwitches}
 use Rattle.rules.specs.Lines.{isWhole, startsAuth, unchanged}
 use Rattle.rules.specs.Replies.{isAuth}
 use Rattle.rules.specs.Edition.{ClientLine, LineRules, document01}
-use Rattle.rules.specs.declared.Switches.{Switches}
 use Rattle.rules.specs.declared.Kind.{Kind}
 
 -- a text as its finished lines, each without its LF, and the unfinished line after them
@@ -40,24 +39,24 @@ longOwes true = Kind.Auth
 longOwes false = Kind.Plain
 
 -- "A line judged whole gives what "Client lines" makes of it", "A longer one gives itself"
-unfoldable pub finishedLine : LineRules → Switches → List ℕ → ClientLine
-finishedLine rules sw l =
-    choose (isWhole l) (rules .clientLine sw l)
-    (record { toServer = unchanged l; owes = longOwes (startsAuth l); switches = sw })
+unfoldable pub finishedLine : (rules : LineRules) → rules .LineState → List ℕ → ClientLine (rules .LineState)
+finishedLine rules st l =
+    choose (isWhole l) (rules .clientLine st l)
+    (record { toServer = unchanged l; owes = longOwes (startsAuth l); after = st })
 
 -- "An unfinished one gives nothing up to 511 octets, and itself from 512 or once the client has ended"
 unfoldable pub unfinishedLine : List ℕ → Bool → List ℕ
 unfinishedLine rest ended = choose (isWhole rest) (choose ended rest []) rest
 
-unfoldable pub readLines : LineRules → Switches → List (List ℕ) → List ℕ → Bool → List ℕ
-readLines rules sw [] rest ended = unfinishedLine rest ended
-readLines rules sw (l ∷ ls) rest ended =
-    let line = finishedLine rules sw l in
-    let next = readLines rules (line .switches) ls rest ended in
+unfoldable pub readLines : (rules : LineRules) → rules .LineState → List (List ℕ) → List ℕ → Bool → List ℕ
+readLines rules st [] rest ended = unfinishedLine rest ended
+readLines rules st (l ∷ ls) rest ended =
+    let line = finishedLine rules st l in
+    let next = readLines rules (line .after) ls rest ended in
     line .toServer ++ choose (isAuth (line .owes)) (asTheyCame ls rest) next
 
-unfoldable pub readToServer : LineRules → Switches → List ℕ → Bool → List ℕ
-readToServer rules sw text ended = let t = asLines text in readLines rules sw (t .lines) (t .rest) ended
+unfoldable pub readToServer : (rules : LineRules) → rules .LineState → List ℕ → Bool → List ℕ
+readToServer rules st text ended = let t = asLines text in readLines rules st (t .lines) (t .rest) ended
 
 -- what has gone to the server after a setup, by the client's text and whether the client has ended
 unfoldable pub toServer : Setup → List ℕ → Bool → List ℕ
