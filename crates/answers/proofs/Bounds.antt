@@ -1,7 +1,8 @@
 -- One octet writes at most 512 octets to the server and 1,280 to the client, and so a call goes on where there is room.
-use mathlib.Core.Path.{_≡_}
-use mathlib.Core.Bool.{Bool, true, false}
+use mathlib.Core.Path.{_≡_, refl, sym, ap, _∙_}
+use mathlib.Core.Bool.{Bool, true, false, true≢false}
 use mathlib.Core.List.{List, [], _∷_}
+use mathlib.Core.Logic.{_≢_}
 use mathlib.Core.Option.{Option, none}
 use Prim.Native.Nat.{ℕ, zero, suc, _+_, _*_, _≤_, _<_}
 use native.Mathlib.Omega.{arith}
@@ -24,6 +25,7 @@ use Rattle.rules.specs.Answers.{
 use Rattle.rules.specs.Lines.{judged, content}
 use Rattle.rules.specs.Commands.{command}
 use Rattle.rules.specs.Replies.{replyLine, passiveReply, headAnswers}
+use Rattle.rules.specs.Demand3.{isRefusal}
 use Rattle.rules.specs.declared.Answer.{Answer}
 use Rattle.rules.specs.declared.Switches.{Switches}
 use Rattle.rules.specs.declared.Kind.{Kind}
@@ -45,11 +47,11 @@ use Rattle.queue.proofs.Answers.{length-queue}
 use Rattle.steps.specs.declared.Fixed.{Fixed}
 use Rattle.records.specs.declared.Session.{Session}
 use Rattle.steps.specs.Steps.{State, Step, owedThen, owedFrom, answersText, isAuthNext, settledText, clientState, clientEffectIn, clientStep, serverState, serverEffectIn, serverStep, octetStep}
-use Rattle.records.specs.Sound.{sound, refusalOf, blocked}
+use Rattle.records.specs.Sound.{refusalOf, blocked}
 use Rattle.places.specs.Places.{isPassing}
-use Rattle.steps.specs.Takes.{unlessStopped, stopOf, takes}
-use Rattle.session.specs.Calls.{stateOf, fixedOf, unlessRefused, outcome, arrived}
-use Rattle.session.specs.Bounds.{WritesAtMost, OctetBound, Progress}
+use Rattle.steps.specs.Takes.{Took, unlessStopped, stopOf, takes}
+use Rattle.session.specs.Calls.{stateOf, fixedOf, refused, unlessRefused, outcome, arrived}
+use Rattle.session.specs.Bounds.{Shaped, WritesAtMost, OctetBound, Progress}
 use Rattle.steps.proofs.Turns.{place-owed}
 use Rattle.answers.proofs.Lengths.{isOctet, judged-most, port-line, pasv-line, passive-line, head-answers}
 use Rattle.answers.specs.Table.{Sound}
@@ -248,12 +250,6 @@ octet-bound s d x shape e notFull = octet-most (fixedOf s) (shape .mapped) (shap
 
 -- ---- a call goes on
 
-accepted-sound : (s : Session) (d : ℕ) (r : Option Answer) → Refusal s d r → r ≡ none → Sound s
-accepted-sound s d r (unknown u) e = absurd (let z : _≡_ {A = ℕ} 0 1 = cc in omega arith)
-accepted-sound s d r (bad k n) e = absurd (let z : _≡_ {A = ℕ} 0 1 = cc in omega arith)
-accepted-sound s d r (over k n p) e = n
-accepted-sound s d r (accepted k n p) e = n
-
 -- each buffer has room for what one octet writes at most
 goes-on : (d : Side) (s : State) (t : Step) (rs rc : ℕ) → isQueueFull d (isPassing (s .control .client .place)) (s .control .owed) ≡ false
     → WritesAtMost t → mostToClient ≤ rs → mostToClient ≤ rc → stopOf d s t rs rc ≡ none
@@ -266,11 +262,37 @@ takes-one : (f : Fixed) (d : Side) (s : State) (x : ℕ) (xs : List ℕ) (rs rc 
 unfolding takes unlessStopped
 takes-one f d s x xs rs rc e = rw e (omega arith)
 
-pub progress : Progress
-unfolding arrived unlessRefused outcome
-progress s d x xs rs rc shape ok notFull hs hc =
-    let t : Step = octetStep (fixedOf s) (sideOf d) (stateOf s) x in
-    let lets : sound s ≡ true = sound-words s .1 (accepted-sound s d (refusalOf s d) (refusal-of s d) ok) in
-    rw ok
-    (takes-one (fixedOf s) (sideOf d) (stateOf s) x xs rs rc
-    (goes-on (sideOf d) (stateOf s) t rs rc notFull (octet-bound s (sideOf d) x shape lets notFull) hs hc))
+module _ (s : Session) (shape : Shaped s) (d x : ℕ) (xs : List ℕ) (rs rc : ℕ) (hs : mostToClient ≤ rs) (hc : mostToClient ≤ rc) where
+  abbrev took : Took
+  took = takes (fixedOf s) (sideOf d) (stateOf s) (x ∷ xs) rs rc
+
+  -- a call that nothing refuses takes its first octet, unless 1 stops it
+  first-taken : Sound s → isQueueFull (sideOf d) (isPassing (s .control .client .place)) (s .control .owed) ≡ false → 1 ≤ took .taken
+  first-taken w notFull =
+      let t : Step = octetStep (fixedOf s) (sideOf d) (stateOf s) x in
+      takes-one (fixedOf s) (sideOf d) (stateOf s) x xs rs rc
+      (goes-on (sideOf d) (stateOf s) t rs rc notFull (octet-bound s (sideOf d) x shape (sound-words s .1 w) notFull) hs hc)
+
+  -- and where 1 stops it, 1 is the answer
+  by-queue : (b : Bool) → isQueueFull (sideOf d) (isPassing (s .control .client .place)) (s .control .owed) ≡ b → Sound s
+      → took .answer ≢ Answer.QueueFull → 1 ≤ took .taken
+  unfolding takes unlessStopped stopOf stop choose
+  by-queue true e w other = absurd (other (rw e))
+  by-queue false e w other = first-taken w e
+
+  by-refusal : (r : Option Answer) → Refusal s d r → isRefusal (unlessRefused r s (outcome s (sideOf d) took) .called .answer) ≡ false
+      → unlessRefused r s (outcome s (sideOf d) took) .called .answer ≢ Answer.QueueFull
+      → 1 ≤ unlessRefused r s (outcome s (sideOf d) took) .called .taken
+  unfolding unlessRefused refused outcome
+  by-refusal r (unknown u) e other = absurd (true≢false e)
+  by-refusal r (bad k n) e other = absurd (true≢false e)
+  by-refusal r (over k n p) e other = absurd (true≢false e)
+  by-refusal r (accepted k n p) e other = by-queue _ refl n other
+
+-- so it is of what an arrival answered and took
+pub progress : (s : Session) (d : ℕ) (octets : List ℕ) (rs rc : ℕ) {a : Answer} {n : ℕ} → Shaped s
+    → a ≡ arrived s d octets rs rc .called .answer → n ≡ arrived s d octets rs rc .called .taken → Progress octets rs rc a n
+unfolding arrived
+progress s d [] rs rc shape answer taken more e other hs hc = absurd (omega arith)
+progress s d (x ∷ xs) rs rc shape answer taken more e other hs hc =
+    rw taken (by-refusal s shape d x xs rs rc hs hc (refusalOf s d) (refusal-of s d) (sym (ap isRefusal answer) ∙ e) (λ q. other (answer ∙ q)))

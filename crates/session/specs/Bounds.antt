@@ -1,19 +1,21 @@
 -- "The session": how much one octet writes, and that a call goes on where there is room.
 use mathlib.Core.Path.{_≡_}
 use mathlib.Core.Bool.{true, false}
-use mathlib.Core.List.{List, _∷_}
-use mathlib.Core.Option.{none}
+use mathlib.Core.List.{List}
+use mathlib.Core.Logic.{_≢_}
 use Prim.Native.Nat.{ℕ, _-_, _≤_}
 use lib.Dec.{leb}
 use lib.ListN.{length}
 use Rattle.rules.specs.Octets.{every}
-use Rattle.rules.specs.Answers.{Side, sideOf, mostOwed, mostToServer, mostToClient, isQueueFull}
+use Rattle.rules.specs.Answers.{Side, mostOwed, mostToServer, mostToClient, isQueueFull}
 use Rattle.rules.specs.Lines.{judged}
+use Rattle.rules.specs.Demand3.{isRefusal}
+use Rattle.rules.specs.declared.Answer.{Answer}
 use Rattle.records.specs.declared.Session.{Session}
 use Rattle.steps.specs.Steps.{Step, octetStep}
-use Rattle.records.specs.Sound.{sound, refusalOf}
+use Rattle.records.specs.Sound.{sound}
 use Rattle.places.specs.Places.{isPassing}
-use Rattle.session.specs.Calls.{stateOf, fixedOf, arrived}
+use Rattle.session.specs.Calls.{stateOf, fixedOf}
 
 -- what the types of a record's arrays say of it
 pub record Shaped (s : Session) : Type 0 where
@@ -34,10 +36,9 @@ OctetBound =
     → isQueueFull d (isPassing (s .control .client .place)) (s .control .owed) ≡ false
     → WritesAtMost (octetStep (fixedOf s) d (stateOf s) x)
 
--- "So a non-empty arrival not refused by 3, 4, 6 or stopped by 1 takes at least one octet when each buffer has 1,280 free"
-abbrev pub Progress : Type 0
-Progress =
-    (s : Session) (d x : ℕ) (xs : List ℕ) (serverRoom clientRoom : ℕ) → Shaped s → refusalOf s d ≡ none
-    → isQueueFull (sideOf d) (isPassing (s .control .client .place)) (s .control .owed) ≡ false
-    → mostToClient ≤ serverRoom → mostToClient ≤ clientRoom
-    → 1 ≤ arrived s d (x ∷ xs) serverRoom clientRoom .called .taken
+-- "So a non-empty arrival not refused by 3, 4, 6 or stopped by 1 takes at least one octet when each buffer has 1,280 free":
+-- the octets that arrive, the room in each buffer, the answer, and how many octets are taken
+abbrev pub Progress : List ℕ → ℕ → ℕ → Answer → ℕ → Type 0
+Progress octets serverRoom clientRoom answer taken =
+    1 ≤ length octets → isRefusal answer ≡ false → answer ≢ Answer.QueueFull
+    → mostToClient ≤ serverRoom → mostToClient ≤ clientRoom → 1 ≤ taken
