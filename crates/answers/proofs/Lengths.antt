@@ -1,12 +1,12 @@
 -- How long the texts are that one octet gives.
-use mathlib.Core.Path.{_≡_}
+use mathlib.Core.Path.{_≡_, refl}
 use mathlib.Core.Bool.{Bool, true}
 use mathlib.Core.List.{List, [], _∷_}
-use Prim.Native.Nat.{ℕ, zero, suc, _*_, _≤_}
+use Prim.Native.Nat.{ℕ, zero, suc, _*_, _≤_, _<_}
 use native.Mathlib.Omega.{arith}
 use lib.Dec.{leb, lit≤}
 use lib.ListN.{length, getD, length-append}
-use borrow.Author.Tests.{leb-true}
+use borrow.Author.Tests.{leb-true, le-leb}
 use Rattle.rules.specs.Octets.{every}
 use Rattle.rules.specs.Lines.{judged}
 use Rattle.rules.specs.Commands.{portLine, pasvLine}
@@ -32,6 +32,12 @@ unfolding every
 octet-at [] i e = omega arith
 octet-at (n ∷ ns) zero e = leb-true n 255 (and-both (isOctet n) (every isOctet ns) e .0)
 octet-at (n ∷ ns) (suc i) e = octet-at ns i (and-both (isOctet n) (every isOctet ns) e .1)
+
+-- and where each is one, every number is
+pub octets-all : (ns : List ℕ) → ((i : ℕ) → i < length ns → getD ns i 0 ≤ 255) → every isOctet ns ≡ true
+unfolding every
+octets-all [] h = refl
+octets-all (n ∷ ns) h = rw (le-leb n 255 (h 0 (omega arith))) (octets-all ns (λ i less. h (suc i) (omega arith)))
 
 -- ---- the lines that the gateway makes
 

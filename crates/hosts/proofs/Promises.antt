@@ -42,14 +42,6 @@ had-lengths client mapped flags true e h =
     (eqb-true (length client) 16 (both .0), eqb-true (length mapped) 4 (both .1))
 had-lengths client mapped flags false e h = five (rw e at h)
 
--- octets, one by one, and all of them
-pub all-octets : (s : List ℕ) → ((i : ℕ) → getD s i 0 < 256) → every (λ n. leb n 255) s ≡ true
-unfolding every
-all-octets [] h = refl
-all-octets (x ∷ s) h =
-    let first = h 0 in
-    rw (le-leb x 255 (omega arith)) (all-octets s (λ (i : ℕ). h (suc i)))
-
 pub fresh-promised : (memory client mapped : List ℕ) (flags : ℕ) {n : ℕ} {image : List ℕ} → n ≡ setupNumber memory (preparedFrom client mapped flags)
     → image ≡ placed memory 0 (imageOf (preparedFrom client mapped flags .session)) → every (λ n. leb n 255) mapped ≡ true → n ≡ answerNumber Answer.Done
     → Fresh (record { client = client; mapped = mapped; flags = flags }) image

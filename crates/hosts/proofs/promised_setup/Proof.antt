@@ -1,7 +1,8 @@
 -- `hosts::promised_setup` meets its contract: it is what C calls, and a setup that is told 0 had room and addresses of their lengths.
 use native.Mathlib.Omega.{arith}
 use borrow.Author.Needs.{needs}
-use Rattle.hosts.proofs.Promises.{all-octets, fresh-promised}
+use Rattle.answers.proofs.Lengths.{octets-all}
+use Rattle.hosts.proofs.Promises.{fresh-promised}
 use Rattle.hosts.proofs.promised_setup.Statement.{statement}
 use Rattle.hosts.proofs.promised_setup.Tie as tie
 
@@ -15,7 +16,7 @@ returns : tie.Need-returns
 returns c =
     let a = c .before .before .before .before .before .before .before .args in
     let e = c .before .before .fashlemor-setup .ensures in
-    let octets = all-octets (a .mapped .now) (λ i. omega (arith, c .before .before .before .before .shared-slice-known2 .given i)) in
+    let octets = octets-all (a .mapped .now) (λ i less. omega (arith, c .before .before .before .before .shared-slice-known2 .given i)) in
     (e .0, (e .1, λ done. fresh-promised (a .image .now) (a .client .now) (a .mapped .now) (a .flags) (e .0) (e .1) octets done))
 
 pub promised-setup-spec : {M : Type 1} → statement M
