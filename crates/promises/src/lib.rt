@@ -1,8 +1,10 @@
 // The session's functions once more, with the promises that demand 3 is proved from as their contracts: that the session keeps them is proved, not read.
 ghost use mathlib.Core.Path.{_≡_};
 ghost use Prim.Native.Nat.{_<_};
+ghost use lib.ListN.{length};
 ghost use Rattle.rules.specs.Answers.{sideOf};
 ghost use Rattle.rules.specs.Demand3.{arrival, ending};
+ghost use Rattle.session.specs.Bounds.{Progress};
 ghost use Rattle.session.specs.Calls.{prepared, offset as offsetIn};
 ghost use Rattle.history.specs.Gateway.{gateway, returned};
 use records::Session;
@@ -19,7 +21,7 @@ pub fn promised_setup(client: [u8; 16], mapped: [u8; 4], flags: u8) -> Prepared
     session::setup(client, mapped, flags)
 }
 
-// An arrival keeps the promise of a call.
+// An arrival keeps the promise of a call, and goes on where there is room.
 pub fn promised_arrival(
     session: Session,
     direction: u8,
@@ -28,6 +30,10 @@ pub fn promised_arrival(
     to_client: &mut [u8],
 ) -> Called
     ensures { λ r. ⌜ gateway .Promise session (arrival direction (now (octets .entry)) (now («to_server» .entry)) (now («to_client» .entry))) (returned r (now («to_server» .exit)) (now («to_client» .exit))) ⌝ }
+    ensures progress { λ r.
+        let serverRoom = length (now («to_server» .entry)) in
+        let clientRoom = length (now («to_client» .entry)) in
+        ⌜ Progress (now (octets .entry)) serverRoom clientRoom (r .answer) (r .taken) ⌝ }
 {
     session::arrive(session, direction, octets, to_server, to_client)
 }
