@@ -48,7 +48,7 @@ answer-of Answer.BadRecord = refl
 answer-of Answer.BadSetup = refl
 answer-of Answer.DirectionEnded = refl
 
-same-answer : (a b : Answer) → answerNumber a ≡ answerNumber b → a ≡ b
+pub same-answer : (a b : Answer) → answerNumber a ≡ answerNumber b → a ≡ b
 same-answer a b e = sym (answer-of a) ∙ (ap answerOf e ∙ answer-of b)
 
 -- ---- one call

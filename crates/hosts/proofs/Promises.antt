@@ -62,12 +62,13 @@ fresh-promised memory client mapped flags number put octets done =
 
 -- ---- a call
 
-pub call-promised : (image : List ℕ) (c : Call) (counts : List ℕ) (a : Answer) {n : ℕ} {counts′ image′ server client : List ℕ} → answerNumber a ≡ n
+pub call-promised : (image : List ℕ) (c : Call) (counts : List ℕ) {n : ℕ} {counts′ image′ server client : List ℕ}
     → n ≡ answerNumber (outcomeAt image c .called .answer) → image′ ≡ imageAfter image (outcomeAt image c .called)
     → server ≡ serverAfter (outcomeAt image c) (lentServer c) → client ≡ clientAfter (outcomeAt image c) (lentClient c)
-    → counts′ ≡ countsAfter (outcomeAt image c .called) counts → 3 ≤ length counts → Promise image c (toldBy a counts′ image′ server client)
+    → counts′ ≡ countsAfter (outcomeAt image c .called) counts
+    → (a : Answer) → answerNumber a ≡ n → 3 ≤ length counts → Promise image c (toldBy a counts′ image′ server client)
 unfolding countsAfter choose
-call-promised image c counts a e number memory server client told room =
+call-promised image c counts number memory server client told a e room =
     let long = le-leb 3 (length counts) room in
     record {
       number = e ∙ number;

@@ -6,6 +6,7 @@ ghost use lib.ListN.{length, getD};
 ghost use Rattle.rules.specs.Answers.{answerNumber, sideOf};
 ghost use Rattle.rules.specs.Setup.{Setup};
 ghost use Rattle.rules.specs.Demand3.{arrival, ending};
+ghost use Rattle.session.specs.Bounds.{Progress};
 ghost use Rattle.session.specs.Calls.{offset as offsetIn};
 ghost use Rattle.output.specs.Buffer.{placed};
 ghost use Rattle.image.specs.Image.{imageOf, sessionOf};
@@ -29,6 +30,7 @@ pub fn promised_setup(image: &mut [u8], client: &[u8], mapped: &[u8], flags: u8)
 }
 
 // An arrival does all that the call does, whatever is lent, and so keeps the promise to a host that lends three counts.
+// It goes on where there is room.
 pub fn promised_arrival(
     image: &mut [u8],
     direction: u8,
@@ -46,6 +48,11 @@ pub fn promised_arrival(
         ⌜ ((a : Answer) → answerNumber a ≡ r → 3 ≤ length (now (counts .entry))
         → host .Promise (now (image .entry)) c
         (toldBy a (now (counts .exit)) (now (image .exit)) (now («to_server» .exit)) (now («to_client» .exit)))) ⌝ }
+    ensures progress { λ r.
+        let serverRoom = length (now («to_server» .entry)) in
+        let clientRoom = length (now («to_client» .entry)) in
+        ⌜ ((a : Answer) → answerNumber a ≡ r → 3 ≤ length (now (counts .entry))
+        → Progress (now (octets .entry)) serverRoom clientRoom a (getD (now (counts .exit)) 0 0)) ⌝ }
 {
     fashlemor_arrive(image, direction, octets, to_server, to_client, counts)
 }

@@ -1,8 +1,10 @@
--- `hosts::promised_arrival` meets its contract: it is what C calls, whose five equations are the promise.
+-- `hosts::promised_arrival` meets its contract: it is what C calls, whose five equations are the promise, and the octets of the memory are the record's.
+use native.Mathlib.Omega.{arith}
 use borrow.Author.Needs.{needs}
 use Rattle.rules.specs.Demand3.{arrival}
 use Rattle.hosts.specs.Memory.{outcomeAt}
 use Rattle.hosts.proofs.Promises.{call-promised}
+use Rattle.hosts.proofs.Progress.{progress-promised}
 use Rattle.hosts.proofs.promised_arrival.Statement.{statement}
 use Rattle.hosts.proofs.promised_arrival.Tie as tie
 
@@ -24,10 +26,16 @@ same-length-4 c = search needs
 returns : tie.Need-returns
 unfolding outcomeAt
 returns c =
-    let a = c .before .before .before .before .before .before .before .before .before .before .before .before .before .before .before .before .before .before .args in
-    let e = c .before .before .before .before .before .before .before .before .fashlemor-arrive .ensures in (
+    let first = c .before .before .before .before .before .before .before .before .before .before .before .before .before .before .before .before .before in
+    let a = first .before .args in
+    let e = c .before .before .before .before .before .before .before .before .fashlemor-arrive .ensures in
+    let promised =
+    call-promised (a .image .now) (arrival (a .direction) (a .octets .now) (a .to-server .now) (a .to-client .now)) (a .counts .now) (e .0) (e .1 .0) (e .1 .1 .0) (e .1 .1 .1 .0) (e .1 .1 .1 .1) in (
       record { number = e .0; memory = e .1 .0; serverBuffer = e .1 .1 .0; clientBuffer = e .1 .1 .1 .0; told = e .1 .1 .1 .1 },
-      λ answer number room. call-promised (a .image .now) (arrival (a .direction) (a .octets .now) (a .to-server .now) (a .to-client .now)) (a .counts .now) answer number (e .0) (e .1 .0) (e .1 .1 .0) (e .1 .1 .1 .0) (e .1 .1 .1 .1) room,
+      (
+        promised,
+        λ answer number room. progress-promised (a .image .now) (λ i. omega (arith, first .slice-known .given i)) (a .direction) (a .octets .now) (a .to-server .now) (a .to-client .now) _ (promised answer number room),
+      ),
     )
 
 pub promised-arrival-spec : {M : Type 1} → statement M

@@ -27,7 +27,7 @@ returns c =
     let a = c .before .before .before .before .before .before .before .before .before .before .before .before .before .before .before .before .before .args in
     let e = c .before .before .before .before .before .before .before .before .fashlemor-end .ensures in (
       record { number = e .0; memory = e .1 .0; serverBuffer = e .1 .1 .0; clientBuffer = e .1 .1 .1 .0; told = e .1 .1 .1 .1 },
-      λ answer number room. call-promised (a .image .now) (ending (a .direction) (a .to-server .now) (a .to-client .now)) (a .counts .now) answer number (e .0) (e .1 .0) (e .1 .1 .0) (e .1 .1 .1 .0) (e .1 .1 .1 .1) room,
+      call-promised (a .image .now) (ending (a .direction) (a .to-server .now) (a .to-client .now)) (a .counts .now) (e .0) (e .1 .0) (e .1 .1 .0) (e .1 .1 .1 .0) (e .1 .1 .1 .1),
     )
 
 pub promised-end-spec : {M : Type 1} → statement M

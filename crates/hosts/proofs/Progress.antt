@@ -1,0 +1,67 @@
+-- From the promise of a call to a host: an arrival goes on where there is room.
+use mathlib.Core.Path.{_≡_, refl}
+use mathlib.Core.Bool.{Bool, true, false}
+use mathlib.Core.List.{List}
+use Prim.Native.Nat.{ℕ, _+_, _≤_, _<_}
+use native.Mathlib.Omega.{arith}
+use lib.ListN.{length, getD, drop, length-drop}
+use lib.Seq.{length-take-le, getD-take, getD-drop}
+use borrow.Author.Tests.{leb-true}
+use Rattle.rules.specs.Octets.{choose, every}
+use Rattle.rules.specs.Lines.{judged}
+use Rattle.rules.specs.Answers.{mostOwed}
+use Rattle.rules.specs.Demand3.{arrival, Return}
+use Rattle.octets.proofs.Ranges.{and-both}
+use Rattle.session.specs.Bounds.{Shaped, Progress}
+use Rattle.session.specs.Calls.{deadSession}
+use Rattle.answers.proofs.Lengths.{isOctet, octets-all}
+use Rattle.answers.proofs.Bounds.{progress}
+use Rattle.image.specs.Image.{imageSize, part, fieldsIn, isImage, sessionOf}
+use Rattle.image.specs.Lent.{arrivedAt}
+use Rattle.image.proofs.Back.{dead-sized}
+use Rattle.hosts.specs.Memory.{outcomeAt, Promise}
+use Rattle.hosts.proofs.Hosts.{same-answer}
+
+dead-octets : every isOctet (deadSession .mapped) ≡ true
+unfolding deadSession every
+dead-octets = refl
+
+-- memory is octets, and so the record that is read from it has the lengths and the octets of its types
+module _ (image : List ℕ) (octets : (i : ℕ) → getD image i 0 < 256) where
+  part-length : (i n : ℕ) → i + n ≤ length image → length (part image i n) ≡ n
+  part-length i n h = length-take-le n (drop i image) (omega (arith, length-drop i image))
+
+  part-octets : (i n : ℕ) → i + n ≤ length image → every isOctet (part image i n) ≡ true
+  part-octets i n h =
+      octets-all (part image i n)
+      (λ j less. rw (getD-take n (drop i image) j 0 (omega (arith, part-length i n h)), getD-drop i image j 0) (omega (arith, octets (i + j))))
+
+  by-image : (b : Bool) → isImage image ≡ b → Shaped (choose b (fieldsIn image) deadSession)
+  unfolding isImage choose fieldsIn judged mostOwed
+  by-image true e =
+      let room = leb-true imageSize (length image) (and-both _ _ (and-both _ _ e .0) .0) in
+      record {
+        mapped = part-length 51 4 (omega arith);
+        octets = part-octets 51 4 (omega arith);
+        command = part-length 71 511 (omega arith);
+        reply = part-length 582 511 (omega arith);
+        kinds = part-length 55 16 (omega arith);
+      }
+  by-image false e =
+      record {
+        mapped = dead-sized .mapped;
+        octets = dead-octets;
+        command = dead-sized .command;
+        reply = dead-sized .reply;
+        kinds = dead-sized .kinds;
+      }
+
+  image-shaped : Shaped (sessionOf image)
+  unfolding sessionOf
+  image-shaped = by-image (isImage image) refl
+
+  pub progress-promised : (d : ℕ) (arriving out back : List ℕ) (t : Return (List ℕ)) → Promise image (arrival d arriving out back) t
+      → Progress arriving (length out) (length back) (t .answer) (t .taken)
+  unfolding outcomeAt arrivedAt
+  progress-promised d arriving out back t p =
+      progress (sessionOf image) d arriving (length out) (length back) image-shaped (same-answer _ _ (p .number)) (p .taken)
