@@ -1,13 +1,37 @@
--- The twelve exchanges through setup, arrivals and ends, octet by octet and in whole pieces.
+-- The twelve exchanges through setup, arrivals and ends: of all calls that have them as their history, and the short ones computed, octet by octet
+-- and in whole pieces.
 use mathlib.Core.List.{List, [], _∷_, _++_}
+use mathlib.Core.Path.{_≡_}
 use Prim.Native.Nat.{ℕ}
+use lib.Dec.{leb}
+use lib.ListN.{length}
 use Rattle.rules.specs.Octets.{choose}
 use Rattle.rules.specs.Answers.{Side}
 use Rattle.rules.specs.History.{Item, octet, end, sameSide}
+use Rattle.rules.specs.Demand3.{Made, FromFresh, historyOf, goneToServer, goneToClient}
 use Rattle.rules.specs.Exchanges.{Exchange, exchange, allOn, greeting, serverSays, printed}
 use Rattle.records.specs.declared.Session.{Session}
 use Rattle.session.specs.Calls.{Outcome, prepared, arrived, ended}
-use Rattle.history.specs.Gateway.{numberOf}
+use Rattle.history.specs.Gateway.{numberOf, gateway}
+
+-- ---- of all calls, wherever the pieces are cut and whatever the rooms
+
+-- calls from a fresh session that have an exchange, after the greeting, as their history have sent what the table has
+abbrev pub HoldsOf : Exchange → Type 0
+HoldsOf e =
+    (l : List (Made gateway)) → FromFresh gateway allOn l → historyOf gateway l ≡ serverSays greeting ++ e .said
+    → (goneToServer gateway l ≡ printed e .toServer) × (goneToClient gateway l ≡ printed e .toClient)
+
+abbrev pub EachHolds : List Exchange → Type 0
+EachHolds [] = Unit {0}
+EachHolds (e ∷ es) = HoldsOf e × EachHolds es
+
+-- ---- the short ones computed: there are such calls
+
+-- exchanges of few octets; what a long line gives is not computed octet by octet
+unfoldable pub shortOnes : List Exchange → List Exchange
+shortOnes [] = []
+shortOnes (e ∷ es) = choose (leb (length (e .said)) 64) (e ∷ shortOnes es) (shortOnes es)
 
 -- octets that arrive together, or an end
 pub data Said : Type 0 where
@@ -62,5 +86,5 @@ printedBoth e = (printed e, printed e)
 
 -- this page's definitions, for a proof that computes with them
 unfoldable pub calls-exchanges-opened : Unit {0}
-unfolding singly ontoPiece wholly saidOutcome gone calledAs calledBoth printedBoth
+unfolding shortOnes singly ontoPiece wholly saidOutcome gone calledAs calledBoth printedBoth
 calls-exchanges-opened = tt
