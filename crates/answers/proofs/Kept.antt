@@ -296,7 +296,6 @@ module _ (c : Call) (shape : Shaped (c .session)) (w : Sound (c .session)) where
   calls-keep o ending = unless-kept (endResult c) (λ a. end-stays _)
 
 sixteen : 1 ≤ mostOwed
-unfolding mostOwed
 sixteen = lit≤ tt
 
 -- a fresh session is one
@@ -309,7 +308,7 @@ fresh-kept address mapped flags size octets = (
     octets = octets;
     command = length-replicate (judged - 1) 0;
     reply = length-replicate (judged - 1) 0;
-    kinds = length-replicate mostOwed 0;
+    kinds = length-replicate {A = ℕ} mostOwed 0;
   },
   record {
     live = refl;

@@ -11,6 +11,7 @@ use lib.Seq.{length-take-le, drop-cons, drop-drop}
 use Rattle.rules.specs.Octets.{choose}
 use Rattle.rules.specs.Answers.{Side, client, server, isQueueFull, fits, stop, answerNumber}
 use Rattle.rules.specs.declared.Answer.{Answer}
+use Rattle.records.specs.Layout.{lentSize}
 use Rattle.output.specs.Buffer.{placed}
 use Rattle.records.specs.declared.Control.{Control}
 use Rattle.steps.specs.declared.Fixed.{Fixed}
@@ -256,7 +257,7 @@ module _ (supported : Bool) (d : Side) (c : Control) (lent l : List ℕ) where
   abbrev s : State
   s = stateLent c lent
 
-  pub took-all : (m n : ℕ) → holdable c ≡ true → length lent ≡ 1058
+  pub took-all : (m n : ℕ) → holdable c ≡ true → length lent ≡ lentSize
       → tookIn supported d c lent l m n ≡ takes (fixedLent supported lent) d s l m n
   unfolding tookIn choose
   took-all m n h g = rw (h, g)
@@ -278,12 +279,12 @@ module _ (supported : Bool) (d : Side) (c : Control) (lent l : List ℕ) where
   unfolding tookIn choose
   took-none h from to = took-nothing from to _ (rw h)
 
-  by-both : (m n : ℕ) (b : Bool) → eqb (length lent) 1058 ≡ false
-      → choose (b && eqb (length lent) 1058) (takes (fixedLent supported lent) d s l m n) (tookNothing Answer.BadRecord s) ≡ tookNothing Answer.BadRecord s
+  by-both : (m n : ℕ) (b : Bool) → eqb (length lent) lentSize ≡ false
+      → choose (b && eqb (length lent) lentSize) (takes (fixedLent supported lent) d s l m n) (tookNothing Answer.BadRecord s) ≡ tookNothing Answer.BadRecord s
   unfolding choose
   by-both m n true e = rw e
   by-both m n false e = refl
 
-  pub took-other : eqb (length lent) 1058 ≡ false → None
+  pub took-other : eqb (length lent) lentSize ≡ false → None
   unfolding tookIn
   took-other h from to = took-nothing from to _ (by-both (length from) (length to) (holdable c) h)

@@ -9,7 +9,7 @@ use native.Mathlib.Omega.{arith}
 use lib.ListN.{length, take, drop, getD, length-append}
 use lib.Seq.{take-take, drop-cons}
 use Rattle.rules.specs.Octets.{lf, every, isNot, run, front}
-use Rattle.rules.specs.Lines.{judged}
+use Rattle.rules.specs.Lines.{judged, mostHeld}
 use Rattle.rules.specs.Answers.{Side, client, server, isQueueFull}
 use Rattle.octets.proofs.Runs.{run-length, every-front, part-rest, part-length}
 use Rattle.output.specs.Buffer.{placed, placeAfter}
@@ -325,7 +325,7 @@ module _ (f : Fixed) (l : List ℕ) (s : State) (sb cb : List ℕ) (w : Written)
       }
 
   pub client-held : Settled s → s .control .client .place ≡ Place.Holding → Open client s → every (isNot lf) ys ≡ true
-      → s .control .client .held + (j - i) ≤ 511 → length (s .command) ≡ 511
+      → s .control .client .held + (j - i) ≤ mostHeld → length (s .command) ≡ mostHeld
       → n ≡ s .control .client .held + (j - i) → line ≡ placed (s .command) (s .control .client .held) ys
       → Ran f client l (coreFrom s sb cb w) i (coreFrom (holding client s n line) sb cb w) j
   unfolding judged
@@ -337,7 +337,7 @@ module _ (f : Fixed) (l : List ℕ) (s : State) (sb cb : List ℕ) (w : Written)
       (λ m n. holds-run f client s settled p queue ys (drop j l) m n none (omega arith) (omega arith))
 
   pub server-held : Settled s → s .control .server .place ≡ Place.Holding → every (isNot lf) ys ≡ true
-      → s .control .server .held + (j - i) ≤ 511 → length (s .reply) ≡ 511
+      → s .control .server .held + (j - i) ≤ mostHeld → length (s .reply) ≡ mostHeld
       → n ≡ s .control .server .held + (j - i) → line ≡ placed (s .reply) (s .control .server .held) ys
       → Ran f server l (coreFrom s sb cb w) i (coreFrom (holding server s n line) sb cb w) j
   unfolding judged isQueueFull

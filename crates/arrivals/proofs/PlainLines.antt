@@ -10,7 +10,9 @@ use lib.Seq.{length-take-le, take-take, drop-cons}
 use borrow.Author.Tests.{lt-leb}
 use borrow.Rule.Slice.PartMut.{putMid}
 use Rattle.rules.specs.Octets.{lf, every, isNot}
-use Rattle.rules.specs.Answers.{client, isQueueFull}
+use Rattle.rules.specs.Answers.{client, isQueueFull, mostOwed}
+use Rattle.rules.specs.Lines.{mostHeld}
+use Rattle.records.specs.Layout.{lentKinds, lentCommand, lentSize}
 use Rattle.octets.proofs.Runs.{part-length}
 use Rattle.output.specs.Buffer.{placed, placeAfter}
 use Rattle.output.proofs.Placing.{length-placed, take-placed, after-fits, nothing-placed}
@@ -37,7 +39,7 @@ use Rattle.steps.proofs.Lent.{put-part, put-size, kinds-size, kinds-back, kinds
 
 -- ---- no line, and lines behind others
 
-pub said-none : (l : List ℕ) (i held owed : ℕ) (lent out : List ℕ) (at : ℕ) → i ≤ length l → held ≤ 511 → owed ≤ 16 → at ≤ length out
+pub said-none : (l : List ℕ) (i held owed : ℕ) (lent out : List ℕ) (at : ℕ) → i ≤ length l → held ≤ mostHeld → owed ≤ mostOwed → at ≤ length out
     → isStill (kindsLent lent) 0 owed ≡ true
     → SaidPlain l i held owed lent out at (record { more = false; taken = i; held = held; owed = owed; at = at }) lent out
 said-none l i held owed lent out at inside most count room still =
@@ -102,10 +104,10 @@ module _ (c : Control) {l : List ℕ} {i : ℕ} {lent out : List ℕ} (w : Writt
 
 -- ---- the octets that are held
 
-few-open : (owed : ℕ) → owed < 16 → isQueueFull client false owed ≡ false
-few-open owed h = sym (full-by-count true false owed refl refl) ∙ lt-leb 16 owed h
+few-open : (owed : ℕ) → owed < mostOwed → isQueueFull client false owed ≡ false
+few-open owed h = sym (full-by-count true false owed refl refl) ∙ lt-leb mostOwed owed h
 
-module _ (l : List ℕ) {i j : ℕ} (held : ℕ) (lent : List ℕ) {p : List ℕ} (all : length lent ≡ 1058) (h : i ≤ j) (g : j ≤ length l)
+module _ (l : List ℕ) {i j : ℕ} (held : ℕ) (lent : List ℕ) {p : List ℕ} (all : length lent ≡ lentSize) (h : i ≤ j) (g : j ≤ length l)
     (room : held + (j - i) ≤ length (commandIn (linesLent lent)))
     (line : p ≡ placed (commandIn (linesLent lent)) held (take (j - i) (drop i l))) where
   abbrev xs : List ℕ
@@ -114,37 +116,37 @@ module _ (l : List ℕ) {i j : ℕ} (held : ℕ) (lent : List ℕ) {p : List ℕ
   abbrev before : List ℕ
   before = commandIn (linesLent lent)
 
-  before-size : length before ≡ 511
-  before-size = length-take-le 511 (drop 36 lent) (omega (arith, all, length-drop 36 lent))
+  before-size : length before ≡ mostHeld
+  before-size = length-take-le mostHeld (drop lentCommand lent) (omega (arith, all, length-drop lentCommand lent))
 
   xs-fit : held + length xs ≤ length before
   xs-fit = omega (arith, part-length l i j h g, room)
 
-  line-size : length p ≡ 511
+  line-size : length p ≡ mostHeld
   line-size = ap (λ (x : List ℕ). length x) line ∙ (length-placed before held xs xs-fit ∙ before-size)
 
-  pub lent-size : length (putMid 36 511 lent p) ≡ 1058
-  lent-size = put-size 36 511 lent p (omega (arith, all)) line-size ∙ all
+  pub lent-size : length (putMid lentCommand mostHeld lent p) ≡ lentSize
+  lent-size = put-size lentCommand mostHeld lent p (omega (arith, all)) line-size ∙ all
 
   -- a line of which none was held before is all in the arrival
-  pub all-arrived : held ≡ 0 → xs ≡ take (36 + (held + (j - i)) - 36) (drop 36 (putMid 36 511 lent p))
+  pub all-arrived : held ≡ 0 → xs ≡ take (lentCommand + (held + (j - i)) - lentCommand) (drop lentCommand (putMid lentCommand mostHeld lent p))
   all-arrived e =
-      let now = drop 36 (putMid 36 511 lent p) in
-      let count : 36 + (held + (j - i)) - 36 ≡ held + length xs = omega (arith, part-length l i j h g) in
-      let part = put-part 36 511 lent p (omega (arith, all)) line-size in
+      let now = drop lentCommand (putMid lentCommand mostHeld lent p) in
+      let count : lentCommand + (held + (j - i)) - lentCommand ≡ held + length xs = omega (arith, part-length l i j h g) in
+      let part = put-part lentCommand mostHeld lent p (omega (arith, all)) line-size in
       sym (ap (λ (n : ℕ). take n now) count
-      ∙ (sym (take-take (held + length xs) 511 now (omega (arith, xs-fit, before-size)))
+      ∙ (sym (take-take (held + length xs) mostHeld now (omega (arith, xs-fit, before-size)))
       ∙ (ap (take (held + length xs)) (part ∙ line)
       ∙ (take-placed before held xs xs-fit ∙ ap (λ (n : ℕ). take n before ++ xs) e))))
 
   -- the octets up to an LF, put behind those that are held
-  pub line-held : (owed : ℕ) (out : List ℕ) (at : ℕ) → every (isNot lf) xs ≡ true → owed < 16 → isStill (kindsLent lent) 0 owed ≡ true
+  pub line-held : (owed : ℕ) (out : List ℕ) (at : ℕ) → every (isNot lf) xs ≡ true → owed < mostOwed → isStill (kindsLent lent) 0 owed ≡ true
       → at ≤ length out
       → SaidPlain l i held owed lent out at (record { more = false; taken = j; held = held + (j - i); owed = owed; at = at })
-      (putMid 36 511 lent p) out
+      (putMid lentCommand mostHeld lent p) out
   line-held owed out at none few still inside =
       let n = held + (j - i) in
-      let most : n ≤ 511 = omega (arith, room, before-size) in
+      let most : n ≤ mostHeld = omega (arith, room, before-size) in
       record {
         ran = λ f c toClient m fits.
             let w : Written = record { server = at; client = m } in
@@ -173,7 +175,7 @@ module _ (f : Fixed) (l : List ℕ) (s : State) (sb cb : List ℕ) (w : Written)
 
   client-ended : j < length l → getD l j 0 ≡ lf → s .control .client .place ≡ Place.Holding → Open client s
       → isStill (s .kinds) 0 (s .control .owed) ≡ true → isPlain (take (s .control .client .held) (s .command)) ≡ true
-      → s .control .owed < 16 → length (s .kinds) ≡ 16 → w .server + length text ≤ length sb → w .client ≤ length cb
+      → s .control .owed < mostOwed → length (s .kinds) ≡ mostOwed → w .server + length text ≤ length sb → w .client ≤ length cb
       → next ≡ placeAfter sb (w .server) text → out ≡ placed sb (w .server) text
       → Ran f client l (coreFrom s sb cb w) j (coreFrom ended out cb (record { server = next; client = w .client })) (j + 1)
   client-ended h e place queue still plain few size room other en eo =
@@ -201,23 +203,23 @@ module _ (f : Fixed) (l : List ℕ) (s : State) (sb cb : List ℕ) (w : Written)
       }
 
 -- the same over what is lent, into which the code stores the kind
-module _ (l : List ℕ) {j : ℕ} (n owed : ℕ) (lent : List ℕ) (all : length lent ≡ 1058) (out : List ℕ) (at : ℕ) {next : ℕ} {out′ line : List ℕ} where
-  pub line-ended : j < length l → getD l j 0 ≡ lf → n ≤ 511 → owed < 16 → isStill (kindsLent lent) 0 owed ≡ true → at ≤ length out
-      → n < length out - at → line ≡ take (36 + n - 36) (drop 36 lent) → isPlain line ≡ true
+module _ (l : List ℕ) {j : ℕ} (n owed : ℕ) (lent : List ℕ) (all : length lent ≡ lentSize) (out : List ℕ) (at : ℕ) {next : ℕ} {out′ line : List ℕ} where
+  pub line-ended : j < length l → getD l j 0 ≡ lf → n ≤ mostHeld → owed < mostOwed → isStill (kindsLent lent) 0 owed ≡ true → at ≤ length out
+      → n < length out - at → line ≡ take (lentCommand + n - lentCommand) (drop lentCommand lent) → isPlain line ≡ true
       → next ≡ placeAfter out at (line ++ (lf ∷ [])) → out′ ≡ placed out at (line ++ (lf ∷ []))
       → SaidPlain l j n owed lent out at (record { more = true; taken = j + 1; held = 0; owed = owed + 1; at = next })
-      (set lent (20 + owed) 0) out′
+      (set lent (lentKinds + owed) 0) out′
   line-ended h e most few still inside room el plain en eo =
       let kinds = kinds-size lent all in
       let p = set (kindsLent lent) owed 0 in
-      let size : length p ≡ 16 = length-set (kindsLent lent) owed 0 ∙ kinds in
+      let size : length p ≡ mostOwed = length-set (kindsLent lent) owed 0 ∙ kinds in
       let back = kind-stored lent all owed 0 few in
-      let count : 36 + n - 36 ≡ n = omega arith in
+      let count : lentCommand + n - lentCommand ≡ n = omega arith in
       let same : line ≡ take n (commandIn (linesLent lent)) =
-      el ∙ (ap (λ (k : ℕ). take k (drop 36 lent)) count ∙ sym (take-take n 511 (drop 36 lent) most)) in
+      el ∙ (ap (λ (k : ℕ). take k (drop lentCommand lent)) count ∙ sym (take-take n mostHeld (drop lentCommand lent) most)) in
       let short : length line ≡ n =
-      ap (λ (x : List ℕ). length x) (el ∙ ap (λ (k : ℕ). take k (drop 36 lent)) count)
-      ∙ length-take-le n (drop 36 lent) (omega (arith, all, length-drop 36 lent)) in
+      ap (λ (x : List ℕ). length x) (el ∙ ap (λ (k : ℕ). take k (drop lentCommand lent)) count)
+      ∙ length-take-le n (drop lentCommand lent) (omega (arith, all, length-drop lentCommand lent)) in
       let fits : at + length (line ++ (lf ∷ [])) ≤ length out = omega (arith, length-append line (lf ∷ [])) in
       let end = en ∙ after-fits out at (line ++ (lf ∷ [])) fits in
       let whole = ap (λ (x : List ℕ). length x) eo ∙ length-placed out at (line ++ (lf ∷ [])) fits in
@@ -225,7 +227,7 @@ module _ (l : List ℕ) {j : ℕ} (n owed : ℕ) (lent : List ℕ) (all : length
         ran = λ f c toClient m other.
             let w : Written = record { server = at; client = m } in
             let s = stateLent (saidControl c n owed) lent in
-            let after : State = stateLent (saidControl c 0 (owed + 1)) (set lent (20 + owed) 0) in
+            let after : State = stateLent (saidControl c 0 (owed + 1)) (set lent (lentKinds + owed) 0) in
             let path : after ≡ ended f l s out toClient w j next out′ =
             ap (stateLent (saidControl c 0 (owed + 1))) back ∙ kinds-back lent all p size (saidControl c 0 (owed + 1)) in
             subst (λ (t : State). Ran f client l (coreFrom s out toClient w) j (coreFrom t out′ toClient (record { server = next; client = m })) (j + 1))
@@ -238,6 +240,6 @@ module _ (l : List ℕ) {j : ℕ} (n owed : ℕ) (lent : List ℕ) (all : length
         owed = omega arith;
         written = omega arith;
         still = subst (λ (x : List ℕ). isStill x 0 (owed + 1) ≡ true)
-            (sym (ap kindsLent back ∙ put-part 20 16 lent p (omega (arith, all)) size)) (pushed-still (kindsLent lent) owed still);
+            (sym (ap kindsLent back ∙ put-part lentKinds mostOwed lent p (omega (arith, all)) size)) (pushed-still (kindsLent lent) owed still);
         addresses = ap addressesLent back ∙ kinds-addresses lent all p size;
       }

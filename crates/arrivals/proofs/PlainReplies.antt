@@ -11,10 +11,11 @@ use lib.Seq.{length-take-le, take-all, getD-take, drop-cons, drop-drop}
 use borrow.Author.Tests.{leb-true, leb-false, ltb-true, eqb-true, eqb-false, le-leb, lt-leb}
 use borrow.Rule.Slice.PartMut.{putMid, midOf}
 use Rattle.rules.specs.Octets.{choose, lf, every, isNot}
-use Rattle.rules.specs.Lines.{content}
+use Rattle.rules.specs.Lines.{content, mostHeld}
 use Rattle.rules.specs.Replies.{replyLine, leavesUnfinished, headAnswers, authAtHead}
-use Rattle.rules.specs.Answers.{client, server, isQueueFull}
+use Rattle.rules.specs.Answers.{client, server, isQueueFull, mostOwed}
 use Rattle.rules.specs.declared.ReplyLine.{ReplyLine}
+use Rattle.records.specs.Layout.{lentKinds, lentCommand, lentReply, lentSize}
 use Rattle.octets.proofs.Ranges.{and-both}
 use Rattle.octets.proofs.Choices.{either, choose-true, choose-false}
 use Rattle.octets.proofs.Runs.{part-length}
@@ -241,12 +242,12 @@ module _ (f : Fixed) (s : State) (place : s .control .server .place ≡ Place.Ho
 -- ---- the server's line, as it is lent
 
 -- the octets from 547 on are the server's line
-reply-lent : (lent : List ℕ) → length lent ≡ 1058 → midOf 547 511 lent ≡ replyIn (linesLent lent)
-reply-lent lent all = take-all 511 (drop 547 lent) (omega (arith, all, length-drop 547 lent)) ∙ sym (drop-drop 511 36 lent)
+reply-lent : (lent : List ℕ) → length lent ≡ lentSize → midOf lentReply mostHeld lent ≡ replyIn (linesLent lent)
+reply-lent lent all = take-all mostHeld (drop lentReply lent) (omega (arith, all, length-drop lentReply lent)) ∙ sym (drop-drop mostHeld lentCommand lent)
 
 -- no octet, and one run behind the other
 module _ (l : List ℕ) (i h m : ℕ) (u : Bool) (lent out : List ℕ) (w : ℕ) where
-  pub answered-none : i ≤ length l → h ≤ 511 → m ≤ 16 → w ≤ length out → isStill (kindsLent lent) 0 m ≡ true
+  pub answered-none : i ≤ length l → h ≤ mostHeld → m ≤ mostOwed → w ≤ length out → isStill (kindsLent lent) 0 m ≡ true
       → AnsweredPlain l i h m u lent out w (record { more = false; taken = i; held = h; owed = m; unfinished = u; at = w }) lent out
   answered-none inside held owed written still =
       record {
@@ -290,36 +291,36 @@ answered-from f l c lent sb cb w i j then {after} {before} e built ran =
     (subst (λ (p : Place). Ran f server l (coreLent (withServer c (at p (c .server .held)) (c .owed) (c .unfinished)) lent sb cb w) i (then before) j) (sym e) ran)
 
 -- octets of a line that has not ended: p is the server's line then
-module _ (l : List ℕ) (i j h : ℕ) (lent p : List ℕ) (all : length lent ≡ 1058) (forward : i ≤ j) (inside : j ≤ length l)
-    (room : h + (j - i) ≤ length (midOf 547 511 lent)) (put : p ≡ placed (midOf 547 511 lent) h (take (j - i) (drop i l))) where
+module _ (l : List ℕ) (i j h : ℕ) (lent p : List ℕ) (all : length lent ≡ lentSize) (forward : i ≤ j) (inside : j ≤ length l)
+    (room : h + (j - i) ≤ length (midOf lentReply mostHeld lent)) (put : p ≡ placed (midOf lentReply mostHeld lent) h (take (j - i) (drop i l))) where
   abbrev ys : List ℕ
   ys = take (j - i) (drop i l)
 
   abbrev held : ℕ
   held = h + (j - i)
 
-  line-size : length (midOf 547 511 lent) ≡ 511
-  line-size = length-take-le 511 (drop 547 lent) (omega (arith, all, length-drop 547 lent))
+  line-size : length (midOf lentReply mostHeld lent) ≡ mostHeld
+  line-size = length-take-le mostHeld (drop lentReply lent) (omega (arith, all, length-drop lentReply lent))
 
-  part-size : length p ≡ 511
-  part-size = ap length put ∙ (length-placed (midOf 547 511 lent) h ys (omega (arith, part-length l i j forward inside)) ∙ line-size)
+  part-size : length p ≡ mostHeld
+  part-size = ap length put ∙ (length-placed (midOf lentReply mostHeld lent) h ys (omega (arith, part-length l i j forward inside)) ∙ line-size)
 
-  pub held-size : length (putMid 547 511 lent p) ≡ 1058
-  held-size = put-size 547 511 lent p (omega (arith, all)) part-size ∙ all
+  pub held-size : length (putMid lentReply mostHeld lent p) ≡ lentSize
+  held-size = put-size lentReply mostHeld lent p (omega (arith, all)) part-size ∙ all
 
   -- where none was held before, they are all that is held
-  pub held-text : h ≡ 0 → ys ≡ take (547 + held - 547) (drop 547 (putMid 547 511 lent p))
+  pub held-text : h ≡ 0 → ys ≡ take (lentReply + held - lentReply) (drop lentReply (putMid lentReply mostHeld lent p))
   held-text e =
       let part = part-length l i j forward inside in
-      let line = midOf 547 511 lent in
-      let now = drop 547 (putMid 547 511 lent p) in
-      let whole = take-all 511 now (omega (arith, length-drop 547 (putMid 547 511 lent p), held-size)) in
-      let same = sym whole ∙ (put-part 547 511 lent p (omega (arith, all)) part-size ∙ (put ∙ ap (λ (k : ℕ). placed line k ys) e)) in
-      let long : 547 + held - 547 ≡ 0 + length ys = omega arith in
-      sym (ap (take (547 + held - 547)) same ∙ (ap (λ (k : ℕ). take k (placed line 0 ys)) long ∙ take-placed line 0 ys (omega arith)))
+      let line = midOf lentReply mostHeld lent in
+      let now = drop lentReply (putMid lentReply mostHeld lent p) in
+      let whole = take-all mostHeld now (omega (arith, length-drop lentReply (putMid lentReply mostHeld lent p), held-size)) in
+      let same = sym whole ∙ (put-part lentReply mostHeld lent p (omega (arith, all)) part-size ∙ (put ∙ ap (λ (k : ℕ). placed line k ys) e)) in
+      let long : lentReply + held - lentReply ≡ 0 + length ys = omega arith in
+      sym (ap (take (lentReply + held - lentReply)) same ∙ (ap (λ (k : ℕ). take k (placed line 0 ys)) long ∙ take-placed line 0 ys (omega arith)))
 
-  pub reply-held : (m : ℕ) (u : Bool) (out : List ℕ) (w : ℕ) → m ≤ 16 → w ≤ length out → isStill (kindsLent lent) 0 m ≡ true → every (isNot lf) ys ≡ true
-      → AnsweredPlain l i h m u lent out w (record { more = false; taken = j; held = held; owed = m; unfinished = u; at = w }) (putMid 547 511 lent p) out
+  pub reply-held : (m : ℕ) (u : Bool) (out : List ℕ) (w : ℕ) → m ≤ mostOwed → w ≤ length out → isStill (kindsLent lent) 0 m ≡ true → every (isNot lf) ys ≡ true
+      → AnsweredPlain l i h m u lent out w (record { more = false; taken = j; held = held; owed = m; unfinished = u; at = w }) (putMid lentReply mostHeld lent p) out
   reply-held m u out w owed written still none =
       record {
         ran = λ f c sb k other.
@@ -337,30 +338,30 @@ module _ (l : List ℕ) (i j h : ℕ) (lent p : List ℕ) (all : length lent ≡
       }
 
 -- the LF of a plain line; the code reads the line once to judge it, and once to write it
-module _ (l : List ℕ) (j n m : ℕ) (u : Bool) (lent p out out′ : List ℕ) (w next k : ℕ) (v : Bool) (all : length lent ≡ 1058)
-    (held : n ≤ 511) (owed : m ≤ 16) (still : isStill (kindsLent lent) 0 m ≡ true) (inside : j < length l) (end : getD l j 0 ≡ lf) (room : n < length out - w)
-    (seen line : List ℕ) (es : seen ≡ take (547 + n - 547) (drop 547 lent)) (el : line ≡ take (547 + n - 547) (drop 547 lent))
+module _ (l : List ℕ) (j n m : ℕ) (u : Bool) (lent p out out′ : List ℕ) (w next k : ℕ) (v : Bool) (all : length lent ≡ lentSize)
+    (held : n ≤ mostHeld) (owed : m ≤ mostOwed) (still : isStill (kindsLent lent) 0 m ≡ true) (inside : j < length l) (end : getD l j 0 ≡ lf) (room : n < length out - w)
+    (seen line : List ℕ) (es : seen ≡ take (lentReply + n - lentReply) (drop lentReply lent)) (el : line ≡ take (lentReply + n - lentReply) (drop lentReply lent))
     (r : ReplyLine) (read : r ≡ replyLine (content seen)) (ek : k ≡ plainRemoves r m) (ev : v ≡ leavesUnfinished r)
     (keeps : keepsStill (kindsLent lent) u k m ≡ true)
     (en : next ≡ placeAfter out w (line ++ (lf ∷ []))) (eo : out′ ≡ placed out w (line ++ (lf ∷ []))) (put : p ≡ shifted (kindsLent lent) k m) where
   kinds-hold : m ≤ length (kindsLent lent)
   kinds-hold = omega (arith, kinds-size lent all)
 
-  kinds-left : length p ≡ 16
+  kinds-left : length p ≡ mostOwed
   kinds-left = ap length put ∙ (length-shifted (kindsLent lent) k m kinds-hold ∙ kinds-size lent all)
 
   -- either reading is the line
-  as-held : {x : List ℕ} → x ≡ take (547 + n - 547) (drop 547 lent) → x ≡ take n (replyIn (linesLent lent))
+  as-held : {x : List ℕ} → x ≡ take (lentReply + n - lentReply) (drop lentReply lent) → x ≡ take n (replyIn (linesLent lent))
   as-held e =
-      let cut : 547 + n - 547 ≡ n = omega arith in
-      e ∙ (λ i. take (cut i) (sym (drop-drop 511 36 lent) i))
+      let cut : lentReply + n - lentReply ≡ n = omega arith in
+      e ∙ (λ i. take (cut i) (sym (drop-drop mostHeld lentCommand lent) i))
 
   line-long : length line ≡ n
   line-long =
-      let cut : 547 + n - 547 ≡ n = omega arith in
-      ap length el ∙ (length-take-le (547 + n - 547) (drop 547 lent) (omega (arith, all, length-drop 547 lent)) ∙ cut)
+      let cut : lentReply + n - lentReply ≡ n = omega arith in
+      ap length el ∙ (length-take-le (lentReply + n - lentReply) (drop lentReply lent) (omega (arith, all, length-drop lentReply lent)) ∙ cut)
 
-  pub reply-ended : AnsweredPlain l j n m u lent out w (record { more = true; taken = j + 1; held = 0; owed = m - k; unfinished = v; at = next }) (putMid 20 16 lent p) out′
+  pub reply-ended : AnsweredPlain l j n m u lent out w (record { more = true; taken = j + 1; held = 0; owed = m - k; unfinished = v; at = next }) (putMid lentKinds mostOwed lent p) out′
   reply-ended =
       let x = line ++ (lf ∷ []) in
       let fits : w + length x ≤ length out = omega (arith, line-long, length-append line (lf ∷ [])) in
@@ -379,7 +380,7 @@ module _ (l : List ℕ) (j n m : ℕ) (u : Bool) (lent p out out′ : List ℕ) 
         held = omega arith;
         owed = omega arith;
         written = omega (arith, en ∙ after-fits out w x fits, ap length eo, length-placed out w x fits);
-        still = subst (λ (z : List ℕ). isStill z 0 (m - k) ≡ true) (sym (put-part 20 16 lent p (omega (arith, all)) kinds-left ∙ put))
+        still = subst (λ (z : List ℕ). isStill z 0 (m - k) ≡ true) (sym (put-part lentKinds mostOwed lent p (omega (arith, all)) kinds-left ∙ put))
             (shifted-still (kindsLent lent) k m kinds-hold (kept-still (kindsLent lent) u m still k keeps));
         addresses = kinds-addresses lent all p kinds-left;
       }

@@ -6,8 +6,9 @@ use Prim.Native.Nat.{ℕ, _≤_}
 use lib.Dec.{eqb}
 use lib.ListN.{length, getD}
 use Rattle.rules.specs.Octets.{choose}
-use Rattle.rules.specs.Answers.{client, server}
+use Rattle.rules.specs.Answers.{client, server, mostOwed}
 use Rattle.rules.specs.declared.ReplyLine.{ReplyLine}
+use Rattle.rules.specs.Lines.{mostHeld}
 use Rattle.places.specs.declared.Place.{Place}
 use Rattle.places.specs.Places.{at}
 use Rattle.records.specs.declared.Control.{Control}
@@ -47,8 +48,8 @@ pub record SaidPlain (l : List ℕ) (i h m : ℕ) (lent out : List ℕ) (w : ℕ
   pub ran : (f : Fixed) (c : Control) (toClient : List ℕ) (n : ℕ) → n ≤ length toClient
       → Ran f client l (coreLent (saidControl c h m) lent out toClient (record { server = w; client = n })) i
       (coreLent (saidControl c (r .held) (r .owed)) lent′ out′ toClient (record { server = r .at; client = n })) (r .taken)
-  pub held : r .held ≤ 511
-  pub owed : r .owed ≤ 16
+  pub held : r .held ≤ mostHeld
+  pub owed : r .owed ≤ mostOwed
   pub written : r .at ≤ length out′
   pub still : isStill (kindsLent lent′) 0 (r .owed) ≡ true
   pub addresses : addressesLent lent′ ≡ addressesLent lent
@@ -59,8 +60,8 @@ pub record AnsweredPlain (l : List ℕ) (i h m : ℕ) (u : Bool) (lent out : Lis
   pub ran : (f : Fixed) (c : Control) (toServer : List ℕ) (n : ℕ) → n ≤ length toServer
       → Ran f server l (coreLent (answeredControl c h m u) lent toServer out (record { server = n; client = w })) i
       (coreLent (answeredControl c (r .held) (r .owed) (r .unfinished)) lent′ toServer out′ (record { server = n; client = r .at })) (r .taken)
-  pub held : r .held ≤ 511
-  pub owed : r .owed ≤ 16
+  pub held : r .held ≤ mostHeld
+  pub owed : r .owed ≤ mostOwed
   pub written : r .at ≤ length out′
   pub still : isStill (kindsLent lent′) 0 (r .owed) ≡ true
   pub addresses : addressesLent lent′ ≡ addressesLent lent

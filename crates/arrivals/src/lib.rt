@@ -2,6 +2,7 @@
 ghost use mathlib.Core.Path.{_≡_};
 ghost use Prim.Native.Nat.{_≤_};
 ghost use lib.ListN.{length};
+ghost use Rattle.records.specs.Layout.{lentSize};
 ghost use Rattle.records.specs.Sound.{Counted, sideIf};
 ghost use Rattle.steps.specs.declared.Fixed.{Fixed};
 ghost use Rattle.steps.specs.Takes.{takes, tookIn, fixedLent, addressesLent, stateLent, coreLent, Given};
@@ -13,14 +14,14 @@ use places::LF;
 use plain::plain_lines;
 use records::Control;
 use records::holdable;
+use records::layout::LENT_COMMAND;
+use records::layout::LENT_KINDS;
+use records::layout::LENT_SIZE;
 use rules::Answer;
 use rules::Switches;
 use rules::number_of;
 use running::Part;
 use running::any_run;
-use steps::COMMAND;
-use steps::KINDS;
-use steps::LENT;
 use steps::Written;
 use steps::next_octet;
 
@@ -58,7 +59,7 @@ pub fn take(
     if !holdable(start) {
         return nothing_taken(start);
     }
-    if lent.len() != LENT {
+    if lent.len() != LENT_SIZE {
         return nothing_taken(start);
     }
     take_each(
@@ -99,7 +100,7 @@ fn take_each(
     to_client: &mut [u8],
 ) -> Taken
     requires { ⌜ Counted start ⌝ }
-    requires { ⌜ length (now lent) ≡ 1058 ⌝ }
+    requires { ⌜ length (now lent) ≡ lentSize ⌝ }
     ensures { λ r.
         let server = now («to_server» .entry) in
         let client = now («to_client» .entry) in
@@ -203,7 +204,7 @@ fn next_run(
     written: Written,
 ) -> Part
     requires { ⌜ Bounded control written (now «to_server») (now «to_client») ⌝ }
-    requires { ⌜ (i ≤ length (now octets)) × (length (now lent) ≡ 1058) ⌝ }
+    requires { ⌜ (i ≤ length (now octets)) × (length (now lent) ≡ lentSize) ⌝ }
     ensures { λ r.
         let k = coreLent control (now (lent .entry)) (now («to_server» .entry)) (now («to_client» .entry)) written in
         let m = coreLent (r .control) (now (lent .exit)) (now («to_server» .exit)) (now («to_client» .exit)) (r .written) in
@@ -229,14 +230,14 @@ fn next_run(
     }
     let then = plain.control;
     let given = plain.written;
-    let kinds = sixteen(&lent[KINDS..COMMAND]);
+    let kinds = sixteen(&lent[LENT_KINDS..LENT_COMMAND]);
     any_run(
         from_client,
         then,
         kinds,
         octets,
         j,
-        &mut lent[COMMAND..],
+        &mut lent[LENT_COMMAND..],
         to_server,
         to_client,
         given,

@@ -8,7 +8,9 @@ ghost use Prim.Native.Nat.{ℕ, _+_, _-_, _≤_, _<_};
 ghost use lib.ListN.{length, getD};
 ghost use Rattle.rules.specs.Octets.{lf};
 ghost use Rattle.rules.specs.Replies.{leavesUnfinished};
-ghost use Rattle.rules.specs.Answers.{client, server};
+ghost use Rattle.rules.specs.Answers.{client, server, mostOwed};
+ghost use Rattle.rules.specs.Lines.{mostHeld};
+ghost use Rattle.records.specs.Layout.{lentSize};
 ghost use Rattle.steps.specs.declared.Fixed.{Fixed};
 ghost use Rattle.records.specs.Sound.{sideIf, Counted};
 ghost use Rattle.steps.specs.Takes.{addressesLent, coreLent, kindsLent};
@@ -26,13 +28,14 @@ use places::is_holding;
 use queue::is_still;
 use queue::shift;
 use records::Control;
+use records::layout::LENT_COMMAND;
+use records::layout::LENT_KINDS;
+use records::layout::LENT_REPLY;
+use records::layout::LENT_SIZE;
 use records::with_client;
 use records::with_server;
+use rules::OWED;
 use rules::ReplyLine;
-use steps::COMMAND;
-use steps::KINDS;
-use steps::LENT;
-use steps::REPLY;
 use steps::Written;
 
 // How far one plain line of the client, or several, reach, and whether another may follow; and how many octets are held,
@@ -90,20 +93,20 @@ fn client_line(
     to_server: &mut [u8],
     at: usize,
 ) -> Said
-    requires { ⌜ (held ≤ 511) × (owed < 16) × (isStill (kindsLent (now lent)) 0 owed ≡ true) ⌝ }
-    requires { ⌜ (i ≤ length (now octets)) × (length (now lent) ≡ 1058) × (at ≤ length (now «to_server»)) ⌝ }
+    requires { ⌜ (held ≤ mostHeld) × (owed < mostOwed) × (isStill (kindsLent (now lent)) 0 owed ≡ true) ⌝ }
+    requires { ⌜ (i ≤ length (now octets)) × (length (now lent) ≡ lentSize) × (at ≤ length (now «to_server»)) ⌝ }
     ensures ran { λ r.
         ⌜ SaidPlain (now (octets .entry)) i held owed (now (lent .entry)) (now («to_server» .entry)) at r
         (now (lent .exit)) (now («to_server» .exit)) ⌝ }
     ensures more { λ r. ⌜ (r .more ≡ true → i < r .taken) ⌝ }
 {
-    let j = hold_run(octets, i, &mut lent[COMMAND..REPLY], held);
+    let j = hold_run(octets, i, &mut lent[LENT_COMMAND..LENT_REPLY], held);
     let n = held + (j - i);
-    let line = text(held, &octets[i..j], &lent[COMMAND..COMMAND + n]);
+    let line = text(held, &octets[i..j], &lent[LENT_COMMAND..LENT_COMMAND + n]);
     if may_end(octets, j, n, to_server.len() - at) {
         if commands::is_plain(line) {
             let next = put_line(to_server, at, line, LF);
-            lent[KINDS + owed] = 0;
+            lent[LENT_KINDS + owed] = 0;
             return Said {
                 more: true,
                 taken: j + 1,
@@ -132,8 +135,8 @@ fn client_lines(
     to_server: &mut [u8],
     first: usize,
 ) -> Said
-    requires { ⌜ (start ≤ 511) × (before ≤ 16) × (isStill (kindsLent (now lent)) 0 before ≡ true) ⌝ }
-    requires { ⌜ (from ≤ length (now octets)) × (length (now lent) ≡ 1058) × (first ≤ length (now «to_server»)) ⌝ }
+    requires { ⌜ (start ≤ mostHeld) × (before ≤ mostOwed) × (isStill (kindsLent (now lent)) 0 before ≡ true) ⌝ }
+    requires { ⌜ (from ≤ length (now octets)) × (length (now lent) ≡ lentSize) × (first ≤ length (now «to_server»)) ⌝ }
     ensures { λ r.
         ⌜ SaidPlain (now (octets .entry)) from start before (now (lent .entry)) (now («to_server» .entry)) first r
         (now (lent .exit)) (now («to_server» .exit)) ⌝ }
@@ -142,7 +145,7 @@ fn client_lines(
     let mut owed = before;
     let mut at = first;
     let mut i = from;
-    while i < octets.len() && owed < 16 {
+    while i < octets.len() && owed < OWED {
         let said = client_line(held, owed, octets, i, lent, to_server, at);
         if !said.more {
             return said;
@@ -217,24 +220,24 @@ fn server_line(
     to_client: &mut [u8],
     at: usize,
 ) -> Answered
-    requires { ⌜ (held ≤ 511) × (owed ≤ 16) × (isStill (kindsLent (now lent)) 0 owed ≡ true) ⌝ }
-    requires { ⌜ (i ≤ length (now octets)) × (length (now lent) ≡ 1058) × (at ≤ length (now «to_client»)) ⌝ }
+    requires { ⌜ (held ≤ mostHeld) × (owed ≤ mostOwed) × (isStill (kindsLent (now lent)) 0 owed ≡ true) ⌝ }
+    requires { ⌜ (i ≤ length (now octets)) × (length (now lent) ≡ lentSize) × (at ≤ length (now «to_client»)) ⌝ }
     ensures ran { λ r.
         ⌜ AnsweredPlain (now (octets .entry)) i held owed unfinished (now (lent .entry)) (now («to_client» .entry)) at r
         (now (lent .exit)) (now («to_client» .exit)) ⌝ }
     ensures more { λ r. ⌜ (r .more ≡ true → i < r .taken) ⌝ }
 {
-    let j = hold_run(octets, i, &mut lent[REPLY..LENT], held);
+    let j = hold_run(octets, i, &mut lent[LENT_REPLY..LENT_SIZE], held);
     let n = held + (j - i);
     if may_end(octets, j, n, to_client.len() - at) {
-        let read = text(held, &octets[i..j], &lent[REPLY..REPLY + n]);
+        let read = text(held, &octets[i..j], &lent[LENT_REPLY..LENT_REPLY + n]);
         let reply = replies::reply_line(lines::content(read));
         let removes = removed(reply, owed);
-        if keeps_still(&lent[KINDS..COMMAND], unfinished, removes, owed) {
+        if keeps_still(&lent[LENT_KINDS..LENT_COMMAND], unfinished, removes, owed) {
             // Asked for again: the kinds were lent in between.
-            let line = text(held, &octets[i..j], &lent[REPLY..REPLY + n]);
+            let line = text(held, &octets[i..j], &lent[LENT_REPLY..LENT_REPLY + n]);
             let next = put_line(to_client, at, line, LF);
-            shift(&mut lent[KINDS..COMMAND], removes, owed);
+            shift(&mut lent[LENT_KINDS..LENT_COMMAND], removes, owed);
             return Answered {
                 more: true,
                 taken: j + 1,
@@ -266,8 +269,8 @@ fn server_lines(
     to_client: &mut [u8],
     first: usize,
 ) -> Answered
-    requires { ⌜ (start ≤ 511) × (before ≤ 16) × (isStill (kindsLent (now lent)) 0 before ≡ true) ⌝ }
-    requires { ⌜ (from ≤ length (now octets)) × (length (now lent) ≡ 1058) × (first ≤ length (now «to_client»)) ⌝ }
+    requires { ⌜ (start ≤ mostHeld) × (before ≤ mostOwed) × (isStill (kindsLent (now lent)) 0 before ≡ true) ⌝ }
+    requires { ⌜ (from ≤ length (now octets)) × (length (now lent) ≡ lentSize) × (first ≤ length (now «to_client»)) ⌝ }
     ensures { λ r.
         ⌜ AnsweredPlain (now (octets .entry)) from start before reply (now (lent .entry)) (now («to_client» .entry)) first r
         (now (lent .exit)) (now («to_client» .exit)) ⌝ }
@@ -308,7 +311,7 @@ fn plain_commands(
     written: Written,
 ) -> Part
     requires { ⌜ Counted control × (isStill (kindsLent (now lent)) 0 (control .owed) ≡ true) ⌝ }
-    requires { ⌜ (i ≤ length (now octets)) × (length (now lent) ≡ 1058) × (written .server ≤ length (now «to_server»)) ⌝ }
+    requires { ⌜ (i ≤ length (now octets)) × (length (now lent) ≡ lentSize) × (written .server ≤ length (now «to_server»)) ⌝ }
     ensures { λ r.
         let l = now (octets .entry) in
         let out = now («to_server» .entry) in
@@ -359,7 +362,7 @@ fn plain_replies(
     written: Written,
 ) -> Part
     requires { ⌜ Counted control × (isStill (kindsLent (now lent)) 0 (control .owed) ≡ true) ⌝ }
-    requires { ⌜ (i ≤ length (now octets)) × (length (now lent) ≡ 1058) × (written .client ≤ length (now «to_client»)) ⌝ }
+    requires { ⌜ (i ≤ length (now octets)) × (length (now lent) ≡ lentSize) × (written .client ≤ length (now «to_client»)) ⌝ }
     ensures { λ r.
         let l = now (octets .entry) in
         let out = now («to_client» .entry) in
@@ -413,14 +416,14 @@ pub fn plain_lines(
     written: Written,
 ) -> Part
     requires { ⌜ Bounded control written (now «to_server») (now «to_client») ⌝ }
-    requires { ⌜ (i ≤ length (now octets)) × (length (now lent) ≡ 1058) ⌝ }
+    requires { ⌜ (i ≤ length (now octets)) × (length (now lent) ≡ lentSize) ⌝ }
     ensures { λ r.
         let k = coreLent control (now (lent .entry)) (now («to_server» .entry)) (now («to_client» .entry)) written in
         let m = coreLent (r .control) (now (lent .exit)) (now («to_server» .exit)) (now («to_client» .exit)) (r .written) in
         ⌜ ((fixed : Fixed) → Ran fixed (sideIf «from_client») (now (octets .entry)) k i m (r .taken)) ⌝ }
     ensures fixed { λ _. ⌜ addressesLent (now (lent .exit)) ≡ addressesLent (now (lent .entry)) ⌝ }
 {
-    if !is_still(&lent[KINDS..COMMAND], 0, control.owed) {
+    if !is_still(&lent[LENT_KINDS..LENT_COMMAND], 0, control.owed) {
         return Part {
             taken: i,
             control,

@@ -7,6 +7,8 @@ ghost use Prim.Native.Nat.{ℕ, _+_, _-_, _≤_};
 ghost use lib.ListN.{length, take, drop};
 ghost use Rattle.rules.specs.Octets.{every, isNot, lf};
 ghost use Rattle.rules.specs.Answers.{client, isQueueFull};
+ghost use Rattle.rules.specs.Lines.{mostHeld};
+ghost use Rattle.records.specs.Layout.{linesSize};
 ghost use Rattle.output.specs.Buffer.{placed};
 ghost use Rattle.places.specs.Places.{at, isPassing as passes};
 ghost use Rattle.steps.specs.declared.Fixed.{Fixed};
@@ -27,8 +29,9 @@ use records::blocked;
 use records::queue_full;
 use records::with_client;
 use records::with_server;
+use rules::HELD;
+use rules::Kinds;
 use search::find_lf;
-use steps::HELD;
 use steps::Written;
 
 // How far a run goes, and the control and the counts then.
@@ -40,7 +43,7 @@ pub struct Part {
 
 // Nothing is left to settle: no own answer leaves the queue, and AUTH is not first or its step is done, as it is where the
 // server passes or has ended. It may say no where that holds; the octets are then taken one by one.
-fn is_settled(control: Control, kinds: [u8; 16]) -> bool
+fn is_settled(control: Control, kinds: Kinds) -> bool
     ensures { λ r. ⌜ (r ≡ true → Quiet control kinds) ⌝ }
 {
     let plan = planned(kinds, 0, control.owed, blocked(control));
@@ -97,7 +100,7 @@ pub fn hold_run(octets: &[u8], i: usize, line: &mut [u8], held: usize) -> usize
 // As many octets as there are, or as have room, after AUTH.
 fn client_pass(
     control: Control,
-    kinds: [u8; 16],
+    kinds: Kinds,
     octets: &[u8],
     i: usize,
     to_server: &mut [u8],
@@ -128,7 +131,7 @@ fn client_pass(
 // The octets of a line that flows up to its LF, or as many as have room.
 fn client_flow(
     control: Control,
-    kinds: [u8; 16],
+    kinds: Kinds,
     octets: &[u8],
     i: usize,
     to_server: &mut [u8],
@@ -160,14 +163,14 @@ fn client_flow(
 // The octets of a held line up to its LF, or as many as may be held: the octet behind them decides.
 fn client_hold(
     control: Control,
-    kinds: [u8; 16],
+    kinds: Kinds,
     octets: &[u8],
     i: usize,
     command: &mut [u8],
     written: Written,
 ) -> Part
-    requires { ⌜ (control .client .place ≡ Place.Holding) × (control .client .held ≤ 511) ⌝ }
-    requires { ⌜ length (now command) ≡ 511 ⌝ }
+    requires { ⌜ (control .client .place ≡ Place.Holding) × (control .client .held ≤ mostHeld) ⌝ }
+    requires { ⌜ length (now command) ≡ mostHeld ⌝ }
     requires { ⌜ Quiet control kinds ⌝ }
     requires { ⌜ isQueueFull client (passes (control .client .place)) (control .owed) ≡ false ⌝ }
     requires { ⌜ i ≤ length (now octets) ⌝ }
@@ -196,14 +199,14 @@ fn client_hold(
 // not hold, which number 4 refuses.
 fn client_run(
     control: Control,
-    kinds: [u8; 16],
+    kinds: Kinds,
     octets: &[u8],
     i: usize,
     command: &mut [u8],
     to_server: &mut [u8],
     written: Written,
 ) -> Part
-    requires { ⌜ (control .client .held ≤ 511) × (length (now command) ≡ 511) ⌝ }
+    requires { ⌜ (control .client .held ≤ mostHeld) × (length (now command) ≡ mostHeld) ⌝ }
     requires { ⌜ isQueueFull client (passes (control .client .place)) (control .owed) ≡ false ⌝ }
     requires { ⌜ (i ≤ length (now octets)) × (written .server ≤ length (now «to_server»)) ⌝ }
     ensures { λ r.
@@ -247,7 +250,7 @@ fn client_run(
 // The server's octets after AUTH.
 fn server_pass(
     control: Control,
-    kinds: [u8; 16],
+    kinds: Kinds,
     octets: &[u8],
     i: usize,
     to_client: &mut [u8],
@@ -278,7 +281,7 @@ fn server_pass(
 // The octets of a server line that flows.
 fn server_flow(
     control: Control,
-    kinds: [u8; 16],
+    kinds: Kinds,
     octets: &[u8],
     i: usize,
     to_client: &mut [u8],
@@ -309,14 +312,14 @@ fn server_flow(
 // The octets of a held server line.
 fn server_hold(
     control: Control,
-    kinds: [u8; 16],
+    kinds: Kinds,
     octets: &[u8],
     i: usize,
     reply: &mut [u8],
     written: Written,
 ) -> Part
-    requires { ⌜ (control .server .place ≡ Place.Holding) × (control .server .held ≤ 511) ⌝ }
-    requires { ⌜ length (now reply) ≡ 511 ⌝ }
+    requires { ⌜ (control .server .place ≡ Place.Holding) × (control .server .held ≤ mostHeld) ⌝ }
+    requires { ⌜ length (now reply) ≡ mostHeld ⌝ }
     requires { ⌜ Quiet control kinds ⌝ }
     requires { ⌜ i ≤ length (now octets) ⌝ }
     ensures { λ r.
@@ -343,14 +346,14 @@ fn server_hold(
 // A run of the server's octets from i on, if one begins there.
 fn server_run(
     control: Control,
-    kinds: [u8; 16],
+    kinds: Kinds,
     octets: &[u8],
     i: usize,
     reply: &mut [u8],
     to_client: &mut [u8],
     written: Written,
 ) -> Part
-    requires { ⌜ (control .server .held ≤ 511) × (length (now reply) ≡ 511) ⌝ }
+    requires { ⌜ (control .server .held ≤ mostHeld) × (length (now reply) ≡ mostHeld) ⌝ }
     requires { ⌜ (i ≤ length (now octets)) × (written .client ≤ length (now «to_client»)) ⌝ }
     ensures { λ r.
         let l = now (octets .entry) in
@@ -394,7 +397,7 @@ fn server_run(
 pub fn any_run(
     from_client: bool,
     control: Control,
-    kinds: [u8; 16],
+    kinds: Kinds,
     octets: &[u8],
     i: usize,
     lines: &mut [u8],
@@ -403,7 +406,7 @@ pub fn any_run(
     written: Written,
 ) -> Part
     requires { ⌜ Bounded control written (now «to_server») (now «to_client») ⌝ }
-    requires { ⌜ (i ≤ length (now octets)) × (length (now lines) ≡ 1022) ⌝ }
+    requires { ⌜ (i ≤ length (now octets)) × (length (now lines) ≡ linesSize) ⌝ }
     ensures { λ r.
         let k = coreIn control (now (lines .entry)) kinds (now («to_server» .entry)) (now («to_client» .entry)) written in
         let m = coreIn (r .control) (now (lines .exit)) kinds (now («to_server» .exit)) (now («to_client» .exit)) (r .written) in

@@ -8,6 +8,7 @@ use places::Direction;
 use places::Place;
 use records::Control;
 use records::Session;
+use rules::HELD;
 use rules::number_of;
 use session::Called;
 
@@ -20,7 +21,7 @@ fn main() {
     try_all(with_control(fresh, owing(fresh, 17)));
     try_all(with_kind(fresh, 0, 9));
     try_all(with_kind(with_control(fresh, owing(fresh, 16)), 15, 9));
-    try_places(fresh, Place::Holding, 512);
+    try_places(fresh, Place::Holding, HELD + 1);
     try_places(fresh, Place::Flowing, 1);
     try_places(fresh, Place::Passing, 1);
     try_places(fresh, Place::Ended, 1);
@@ -28,7 +29,7 @@ fn main() {
     try_all(with_kind(fresh, 0, 8));
     try_all(with_kind(fresh, 1, 9));
     try_all(with_control(fresh, owing(fresh, 16)));
-    try_places(fresh, Place::Holding, 511);
+    try_places(fresh, Place::Holding, HELD);
     io::write_all(STDOUT_FILENO, b"no such direction\n");
     try_call(dead(fresh), 2);
 }

@@ -62,7 +62,7 @@ pub record Queue (kinds : List ℕ) (owed : ℕ) (ks : List Kind) : Type 0 where
 
 -- one plain kind: the greeting
 pub queue-fresh : Queue (replicate mostOwed 0) 1 (Kind.Plain ∷ [])
-unfolding mostOwed queueOf kindOf every isListed choose
+unfolding queueOf kindOf every isListed choose
 queue-fresh = record { same = refl; array = record { size = refl; most = lit≤ tt; listed = refl } }
 
 -- ---- a kind is put behind the last one

@@ -11,6 +11,7 @@ use Rattle.rules.specs.Octets.{every}
 use Rattle.rules.specs.Setup.{Setup, setupAnswer}
 use Rattle.rules.specs.Demand3.{Call, arrival, ending, Return, Made, Calls, none, next, lentServer, lentClient, itemsOf, historyOf, goneToServer, goneToClient, Demand3}
 use Rattle.rules.specs.declared.Answer.{Answer}
+use Rattle.records.specs.Layout.{imageSize}
 use Rattle.records.specs.declared.Session.{Session}
 use Rattle.session.specs.declared.Prepared.{Prepared}
 use Rattle.session.specs.Calls.{Outcome, prepared, freshSession}
@@ -19,7 +20,7 @@ use Rattle.answers.proofs.Table.{setup-zero}
 use Rattle.history.specs.Gateway.{Fresh as SessionFresh, Promise as SessionPromise, outcomeOf, gateway}
 use Rattle.history.proofs.Demand3.{demand3}
 use Rattle.output.specs.Buffer.{placed}
-use Rattle.image.specs.Image.{imageSize, imageOf, sessionOf}
+use Rattle.image.specs.Image.{imageOf, sessionOf}
 use Rattle.image.specs.Lent.{arrivedAt, endedAt, imageAfter, serverAfter, clientAfter}
 use Rattle.relay.specs.Host.{preparedFrom}
 use Rattle.relay.specs.Carried.{Holds}

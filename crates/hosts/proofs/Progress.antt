@@ -8,15 +8,16 @@ use lib.ListN.{length, getD, drop, length-drop}
 use lib.Seq.{length-take-le, getD-take, getD-drop}
 use borrow.Author.Tests.{leb-true}
 use Rattle.rules.specs.Octets.{choose, every}
-use Rattle.rules.specs.Lines.{judged}
+use Rattle.rules.specs.Lines.{judged, mostHeld}
 use Rattle.rules.specs.Answers.{mostOwed}
 use Rattle.rules.specs.Demand3.{arrival, Return}
+use Rattle.records.specs.Layout.{imageSize, mappedAt, ipv4Width, commandAt, replyAt, kindsAt}
 use Rattle.octets.proofs.Ranges.{and-both}
 use Rattle.session.specs.Bounds.{Shaped, Progress}
 use Rattle.session.specs.Calls.{deadSession}
 use Rattle.answers.proofs.Lengths.{isOctet, octets-all}
 use Rattle.answers.proofs.Bounds.{progress}
-use Rattle.image.specs.Image.{imageSize, part, fieldsIn, isImage, sessionOf}
+use Rattle.image.specs.Image.{part, fieldsIn, isImage, sessionOf}
 use Rattle.image.specs.Lent.{arrivedAt}
 use Rattle.image.proofs.Back.{dead-sized}
 use Rattle.hosts.specs.Memory.{outcomeAt, Promise}
@@ -37,15 +38,15 @@ module _ (image : List ℕ) (octets : (i : ℕ) → getD image i 0 < 256) where
       (λ j less. rw (getD-take n (drop i image) j 0 (omega (arith, part-length i n h)), getD-drop i image j 0) (omega (arith, octets (i + j))))
 
   by-image : (b : Bool) → isImage image ≡ b → Shaped (choose b (fieldsIn image) deadSession)
-  unfolding isImage choose fieldsIn judged mostOwed
+  unfolding isImage choose fieldsIn judged
   by-image true e =
       let room = leb-true imageSize (length image) (and-both _ _ (and-both _ _ e .0) .0) in
       record {
-        mapped = part-length 51 4 (omega arith);
-        octets = part-octets 51 4 (omega arith);
-        command = part-length 71 511 (omega arith);
-        reply = part-length 582 511 (omega arith);
-        kinds = part-length 55 16 (omega arith);
+        mapped = part-length mappedAt ipv4Width (omega arith);
+        octets = part-octets mappedAt ipv4Width (omega arith);
+        command = part-length commandAt mostHeld (omega arith);
+        reply = part-length replyAt mostHeld (omega arith);
+        kinds = part-length kindsAt mostOwed (omega arith);
       }
   by-image false e =
       record {

@@ -12,13 +12,14 @@ use Rattle.rules.specs.Answers.{answerNumber, sideOf}
 use Rattle.rules.specs.Setup.{Setup}
 use Rattle.rules.specs.Demand3.{Call, lentServer, lentClient}
 use Rattle.rules.specs.declared.Answer.{Answer}
+use Rattle.records.specs.Layout.{imageSize}
 use Rattle.octets.proofs.Ranges.{and-both}
 use Rattle.output.specs.Buffer.{placed}
 use Rattle.records.specs.declared.Session.{Session}
 use Rattle.session.specs.declared.Prepared.{Prepared}
 use Rattle.session.specs.Calls.{offset}
 use Rattle.history.specs.Gateway.{numberOf, offsetNumber}
-use Rattle.image.specs.Image.{imageSize, imageOf}
+use Rattle.image.specs.Image.{imageOf}
 use Rattle.image.specs.Lent.{imageAfter, serverAfter, clientAfter}
 use Rattle.relay.specs.Host.{preparedFrom, setupNumber, countsAfter, offsetAfter}
 use Rattle.hosts.specs.Memory.{Fresh, outcomeAt, Promise, toldBy}

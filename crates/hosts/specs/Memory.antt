@@ -10,10 +10,11 @@ use Rattle.rules.specs.Answers.{answerNumber}
 use Rattle.rules.specs.Setup.{Setup, setupAnswer}
 use Rattle.rules.specs.Demand3.{Call, arrival, ending, Return, Gateway, lentServer, lentClient}
 use Rattle.rules.specs.declared.Answer.{Answer}
+use Rattle.records.specs.Layout.{imageSize}
 use Rattle.output.specs.Buffer.{placed}
 use Rattle.session.specs.Calls.{Outcome, offset as sessionOffset}
 use Rattle.history.specs.Gateway.{numberOf, offsetNumber}
-use Rattle.image.specs.Image.{imageSize, imageOf, sessionOf}
+use Rattle.image.specs.Image.{imageOf, sessionOf}
 use Rattle.image.specs.Lent.{arrivedAt, endedAt, imageAfter, serverAfter, clientAfter}
 use Rattle.relay.specs.Host.{preparedFrom, setupNumber, countsAfter}
 

@@ -2,18 +2,19 @@
 use mathlib.Core.Path.{_≡_, refl, ap, sym, _∙_}
 use mathlib.Core.Bool.{true, _&&_}
 use mathlib.Core.List.{List, [], _∷_, _++_}
-use Prim.Native.Nat.{ℕ, zero, suc, _+_, _*_, _/_, _%_, _^_, _≤_, _<_}
+use Prim.Native.Nat.{ℕ, zero, suc, _+_, _-_, _*_, _/_, _%_, _^_, _≤_, _<_}
 use native.Mathlib.Omega.{arith}
 use lib.Dec.{leb, eqb}
 use lib.ListN.{length, getD, take, drop}
 use lib.Seq.{drop-cons, drop-drop, length-take-le, take-add, take-take}
 use borrow.Author.Tests.{leb-true}
 use Rattle.rules.specs.Octets.{choose, every}
-use Rattle.rules.specs.Answers.{wrapped}
+use Rattle.rules.specs.Answers.{wrapped, mostOwed}
+use Rattle.rules.specs.Lines.{mostHeld}
+use Rattle.records.specs.Layout.{numberWidth, ipv6Width, ipv4Width, liveAt, supportedAt, epsvAt, clientPlaceAt, owedAt, clientHeldAt, serverHeldAt, upTakenAt, upWrittenAt, downTakenAt, downWrittenAt, clientAt, mappedAt, kindsAt, commandAt, imageSize, lentSize, linesSize, bitsSize, placesSize, marksSize, numbersSize}
 use Rattle.octets.proofs.Ranges.{and-both}
 use Rattle.output.specs.Buffer.{placed}
 use Rattle.image.specs.Image.{
-  imageSize,
   bit,
   placeNumber,
   fourOctets,
@@ -64,8 +65,8 @@ four-same a b c d n ha hb hc hd e = four-list n (omega arith) (omega arith) (ome
 
 -- ---- the marks
 
-marks-same : (image : List ℕ) → 7 ≤ length image → atMost 1 (part image 0 5) ≡ true → atMost 3 (part image 5 2) ≡ true
-    → marksOf (fieldsIn image) ≡ part image 0 7
+marks-same : (image : List ℕ) → marksSize ≤ length image → atMost 1 (part image liveAt bitsSize) ≡ true → atMost 3 (part image clientPlaceAt placesSize) ≡ true
+    → marksOf (fieldsIn image) ≡ part image liveAt marksSize
 unfolding atMost every marksOf fieldsIn controlIn
 marks-same (a ∷ b ∷ c ∷ d ∷ e ∷ f ∷ g ∷ rest) h m p =
     let m1 = and-both (leb a 1) (leb b 1 && (leb c 1 && (leb d 1 && (leb e 1 && true)))) m in
@@ -92,7 +93,7 @@ adjoined image i n m = rw (take-add n m (drop i image), drop-drop n i image)
 
 module _ (image : List ℕ) (long : imageSize ≤ length image) (octets : (i : ℕ) → getD image i 0 < 256) where
   part-four : (i : ℕ) → suc (suc (suc i)) < length image
-      → part image i 4 ≡ getD image i 0 ∷ getD image (suc i) 0 ∷ getD image (suc (suc i)) 0 ∷ getD image (suc (suc (suc i))) 0 ∷ []
+      → part image i numberWidth ≡ getD image i 0 ∷ getD image (suc i) 0 ∷ getD image (suc (suc i)) 0 ∷ getD image (suc (suc (suc i))) 0 ∷ []
   part-four i h =
       rw (drop-cons image i 0 (omega arith), drop-cons image (suc i) 0 (omega arith), drop-cons image (suc (suc i)) 0 (omega arith), drop-cons image (suc (suc (suc i))) 0 h)
 
@@ -106,48 +107,48 @@ module _ (image : List ℕ) (long : imageSize ≤ length image) (octets : (i : �
       let three : i + 3 ≡ suc (suc (suc i)) = omega arith in
       rw (one, two, three)
 
-  number-same : (i : ℕ) → suc (suc (suc i)) < length image → fourOctets (numberAt image i) ≡ part image i 4
+  number-same : (i : ℕ) → suc (suc (suc i)) < length image → fourOctets (numberAt image i) ≡ part image i numberWidth
   number-same i h =
       four-same _ _ _ _ (numberAt image i) (octets i) (octets (suc i)) (octets (suc (suc i))) (octets (suc (suc (suc i)))) (number-value i) ∙ sym (part-four i h)
 
   number-low : (i : ℕ) → numberAt image i < 2 ^ 32
   number-low i = omega (arith, number-value i, octets i, octets (suc i), octets (suc (suc i)), octets (suc (suc (suc i))))
 
-  count-same : (i : ℕ) → suc (suc (suc i)) < length image → fourOctets (capped (numberAt image i)) ≡ part image i 4
+  count-same : (i : ℕ) → suc (suc (suc i)) < length image → fourOctets (capped (numberAt image i)) ≡ part image i numberWidth
   count-same i h = ap fourOctets (capped-same (numberAt image i) (number-low i)) ∙ number-same i h
 
-  numbers-same : numbersOf (fieldsIn image) ≡ part image 7 28
+  numbers-same : numbersOf (fieldsIn image) ≡ part image owedAt numbersSize
   unfolding numbersOf fieldsIn controlIn countsAt
   numbers-same =
-      rw (count-same 7 (omega arith), count-same 11 (omega arith), count-same 15 (omega arith), number-same 19 (omega arith), number-same 23 (omega arith), number-same 27 (omega arith), number-same 31 (omega arith))
-      (rw (adjoined image 27 4 4, adjoined image 23 4 8, adjoined image 19 4 12, adjoined image 15 4 16, adjoined image 11 4 20, adjoined image 7 4 24))
+      rw (count-same owedAt (omega arith), count-same clientHeldAt (omega arith), count-same serverHeldAt (omega arith), number-same upTakenAt (omega arith), number-same upWrittenAt (omega arith), number-same downTakenAt (omega arith), number-same downWrittenAt (omega arith))
+      (rw (adjoined image downTakenAt numberWidth numberWidth, adjoined image upWrittenAt numberWidth (clientAt - downTakenAt), adjoined image upTakenAt numberWidth (clientAt - upWrittenAt), adjoined image serverHeldAt numberWidth (clientAt - upTakenAt), adjoined image clientHeldAt numberWidth (clientAt - serverHeldAt), adjoined image owedAt numberWidth (clientAt - clientHeldAt)))
 
-  arrays-same : arraysOf (fieldsIn image) ≡ part image 35 1058
+  arrays-same : arraysOf (fieldsIn image) ≡ part image clientAt lentSize
   unfolding arraysOf fieldsIn
-  arrays-same = rw (adjoined image 71 511 511, adjoined image 55 16 1022, adjoined image 51 4 1038, adjoined image 35 16 1042)
+  arrays-same = rw (adjoined image commandAt mostHeld mostHeld, adjoined image kindsAt mostOwed linesSize, adjoined image mappedAt ipv4Width (imageSize - kindsAt), adjoined image clientAt ipv6Width (imageSize - mappedAt))
 
-  image-same : atMost 1 (part image 0 5) ≡ true → atMost 3 (part image 5 2) ≡ true → imageOf (fieldsIn image) ≡ take imageSize image
+  image-same : atMost 1 (part image liveAt bitsSize) ≡ true → atMost 3 (part image clientPlaceAt placesSize) ≡ true → imageOf (fieldsIn image) ≡ take imageSize image
   unfolding imageOf
-  image-same m p = rw (marks-same image (omega arith) m p, numbers-same, arrays-same, adjoined image 7 28 1058) (adjoined image 0 7 1086)
+  image-same m p = rw (marks-same image (omega arith) m p, numbers-same, arrays-same, adjoined image owedAt numbersSize lentSize) (adjoined image liveAt marksSize (imageSize - owedAt))
 
 -- the three tests of an image
 tests : (image : List ℕ) → isImage image ≡ true
-    → (imageSize ≤ length image) × (atMost 1 (part image 0 5) ≡ true) × (atMost 3 (part image 5 2) ≡ true)
+    → (imageSize ≤ length image) × (atMost 1 (part image liveAt bitsSize) ≡ true) × (atMost 3 (part image clientPlaceAt placesSize) ≡ true)
 unfolding isImage
 tests image ok =
-    let marked = and-both (leb imageSize (length image) && atMost 1 (part image 0 5)) (atMost 3 (part image 5 2)) ok in
-    let long = and-both (leb imageSize (length image)) (atMost 1 (part image 0 5)) (marked .0) in
+    let marked = and-both (leb imageSize (length image) && atMost 1 (part image liveAt bitsSize)) (atMost 3 (part image clientPlaceAt placesSize)) ok in
+    let long = and-both (leb imageSize (length image)) (atMost 1 (part image liveAt bitsSize)) (marked .0) in
     (leb-true imageSize (length image) (long .0), long .1, marked .1)
 
 pub image-long : (image : List ℕ) → isImage image ≡ true → imageSize ≤ length image
 image-long image ok = tests image ok .0
 
 -- the two marks that no call changes
-pub fixed-marks : (image : List ℕ) → isImage image ≡ true → bit (isSet image 0) ∷ bit (isSet image 1) ∷ [] ≡ take 2 image
+pub fixed-marks : (image : List ℕ) → isImage image ≡ true → bit (isSet image liveAt) ∷ bit (isSet image supportedAt) ∷ [] ≡ take epsvAt image
 unfolding marksOf fieldsIn
 fixed-marks image ok =
     let t = tests image ok in
-    ap (take 2) (marks-same image (omega arith) (t .1) (t .2)) ∙ take-take 2 7 image (omega arith)
+    ap (take epsvAt) (marks-same image (omega arith) (t .1) (t .2)) ∙ take-take epsvAt marksSize image (omega arith)
 
 module _ (image : List ℕ) (ok : isImage image ≡ true) (octets : (i : ℕ) → getD image i 0 < 256) where
   fields-same : imageOf (fieldsIn image) ≡ take imageSize image

@@ -11,8 +11,10 @@ use lib.Seq.{length-take-le, take-append-le, take-all, take-take, drop-drop}
 use borrow.Author.Tests.{not-false}
 use borrow.Rule.Slice.PartMut.{putMid, postOf, same-len-mid}
 use Rattle.rules.specs.Octets.{choose}
-use Rattle.rules.specs.Answers.{Side, client, server, sideOf, answerNumber, soundRecord, refusal, stop}
+use Rattle.rules.specs.Answers.{Side, client, server, sideOf, answerNumber, soundRecord, refusal, stop, mostOwed}
 use Rattle.rules.specs.declared.Answer.{Answer}
+use Rattle.rules.specs.Lines.{mostHeld}
+use Rattle.records.specs.Layout.{ipv6Width, ipv4Width, liveAt, supportedAt, epsvAt, upTakenAt, downTakenAt, clientAt, mappedAt, kindsAt, commandAt, replyAt, imageSize, lentMapped, lentKinds, lentCommand, lentReply, lentSize}
 use Rattle.output.specs.Buffer.{placed}
 use Rattle.records.specs.declared.Control.{Control}
 use Rattle.records.specs.declared.Counts.{Counts}
@@ -60,48 +62,48 @@ inside l n b m h g =
     let size = length-take-le n l h in
     from-front b m (take n l) (omega arith) ∙ (ap (drop b) (take-take (b + m) n l g) ∙ sym (from-front b m l (omega arith)))
 
-module _ (image : List ℕ) (room : 1093 ≤ length image) where
+module _ (image : List ℕ) (room : imageSize ≤ length image) where
   abbrev pub lent : List ℕ
-  lent = part image 35 1058
+  lent = part image clientAt lentSize
 
   abbrev rest : List ℕ
-  rest = drop 35 image
+  rest = drop clientAt image
 
-  long : 1058 ≤ length rest
-  long = omega (arith, length-drop 35 image)
+  long : lentSize ≤ length rest
+  long = omega (arith, length-drop clientAt image)
 
-  pub lent-size : length lent ≡ 1058
-  lent-size = length-take-le 1058 rest long
+  pub lent-size : length lent ≡ lentSize
+  lent-size = length-take-le lentSize rest long
 
-  lies : (b m : ℕ) → b + m ≤ 1058 → take m (drop b lent) ≡ part image (35 + b) m
-  lies b m h = inside rest 1058 b m long h ∙ ap (take m) (drop-drop b 35 image)
+  lies : (b m : ℕ) → b + m ≤ lentSize → take m (drop b lent) ≡ part image (clientAt + b) m
+  lies b m h = inside rest lentSize b m long h ∙ ap (take m) (drop-drop b clientAt image)
 
-  pub client-lies : take 16 lent ≡ part image 35 16
-  client-lies = lies 0 16 (omega arith)
+  pub client-lies : take ipv6Width lent ≡ part image clientAt ipv6Width
+  client-lies = lies 0 ipv6Width (omega arith)
 
-  pub mapped-lies : take 4 (drop 16 lent) ≡ part image 51 4
-  mapped-lies = lies 16 4 (omega arith)
+  pub mapped-lies : take ipv4Width (drop lentMapped lent) ≡ part image mappedAt ipv4Width
+  mapped-lies = lies lentMapped ipv4Width (omega arith)
 
-  pub fixed-lies : (supported : Bool) → fixedLent supported lent ≡ record { client = part image 35 16; mapped = part image 51 4; supported = supported }
+  pub fixed-lies : (supported : Bool) → fixedLent supported lent ≡ record { client = part image clientAt ipv6Width; mapped = part image mappedAt ipv4Width; supported = supported }
   fixed-lies supported = λ i. record { client = client-lies i; mapped = mapped-lies i; supported = supported }
 
-  pub state-lies : (c : Control) → stateLent c lent ≡ stateFrom c (part image 71 511) (part image 582 511) (part image 55 16)
+  pub state-lies : (c : Control) → stateLent c lent ≡ stateFrom c (part image commandAt mostHeld) (part image replyAt mostHeld) (part image kindsAt mostOwed)
   state-lies c =
-      let command = lies 36 511 (omega arith) in
-      let whole = take-all 511 (drop 547 lent) (omega (arith, length-drop 547 lent, lent-size)) in
-      let reply = drop-drop 511 36 lent ∙ (sym whole ∙ lies 547 511 (omega arith)) in
-      let kinds = lies 20 16 (omega arith) in
+      let command = lies lentCommand mostHeld (omega arith) in
+      let whole = take-all mostHeld (drop lentReply lent) (omega (arith, length-drop lentReply lent, lent-size)) in
+      let reply = drop-drop mostHeld lentCommand lent ∙ (sym whole ∙ lies lentReply mostHeld (omega arith)) in
+      let kinds = lies lentKinds mostOwed (omega arith) in
       λ i. stateFrom c (command i) (reply i) (kinds i)
 
 -- octets of the number that are lent, as the arrays of a record
-pub arrays-lent : (l : List ℕ) → take 16 l ++ (take 4 (drop 16 l) ++ (kindsLent l ++ (commandIn (linesLent l) ++ replyIn (linesLent l)))) ≡ l
+pub arrays-lent : (l : List ℕ) → take ipv6Width l ++ (take ipv4Width (drop lentMapped l) ++ (kindsLent l ++ (commandIn (linesLent l) ++ replyIn (linesLent l)))) ≡ l
 arrays-lent l =
-    ap (λ (r : List ℕ). take 16 l ++ (take 4 (drop 16 l) ++ (kindsLent l ++ r))) (take-append-drop 511 (linesLent l))
-    ∙ (ap (λ (r : List ℕ). take 16 l ++ (take 4 (drop 16 l) ++ r))
-    (ap (λ (r : List ℕ). kindsLent l ++ r) (sym (drop-drop 16 20 l)) ∙ take-append-drop 16 (drop 20 l))
-    ∙ (ap (λ (r : List ℕ). take 16 l ++ r)
-    (ap (λ (r : List ℕ). take 4 (drop 16 l) ++ r) (sym (drop-drop 4 16 l)) ∙ take-append-drop 4 (drop 16 l))
-    ∙ take-append-drop 16 l))
+    ap (λ (r : List ℕ). take ipv6Width l ++ (take ipv4Width (drop lentMapped l) ++ (kindsLent l ++ r))) (take-append-drop mostHeld (linesLent l))
+    ∙ (ap (λ (r : List ℕ). take ipv6Width l ++ (take ipv4Width (drop lentMapped l) ++ r))
+    (ap (λ (r : List ℕ). kindsLent l ++ r) (sym (drop-drop mostOwed lentKinds l)) ∙ take-append-drop mostOwed (drop lentKinds l))
+    ∙ (ap (λ (r : List ℕ). take ipv6Width l ++ r)
+    (ap (λ (r : List ℕ). take ipv4Width (drop lentMapped l) ++ r) (sym (drop-drop ipv4Width lentMapped l)) ∙ take-append-drop ipv4Width (drop lentMapped l))
+    ∙ take-append-drop lentMapped l))
 
 -- ---- what an arrival leaves
 
@@ -110,7 +112,7 @@ abbrev pub Left : Outcome → Told → List ℕ → List ℕ → List ℕ → Li
 Left o r image image′ out out′ other other′ =
     (Tells r (o .called) × (image′ ≡ imageAfter image (o .called))) × ((out′ ≡ serverAfter o out) × (other′ ≡ clientAfter o other))
 
-module _ (image octets out other : List ℕ) (d : ℕ) (side : Side) (same : side ≡ sideOf d) (room : 1093 ≤ length image)
+module _ (image octets out other : List ℕ) (d : ℕ) (side : Side) (same : side ≡ sideOf d) (room : imageSize ≤ length image)
     (free : refusalOf (fieldsIn image) d ≡ none) where
   abbrev s : Session
   s = fieldsIn image
@@ -118,7 +120,7 @@ module _ (image octets out other : List ℕ) (d : ℕ) (side : Side) (same : sid
   abbrev whole : Took
   whole = takes (fixedOf s) side (stateOf s) octets (length out) (length other)
 
-  pub lent-all : (supported : Bool) (c : Control) → supported ≡ isSet image 1 → c ≡ controlIn image
+  pub lent-all : (supported : Bool) (c : Control) → supported ≡ isSet image supportedAt → c ≡ controlIn image
       → tookIn supported side c (lent image room) octets (length out) (length other) ≡ whole
   unfolding fieldsIn
   lent-all supported c es ec =
@@ -131,7 +133,7 @@ module _ (image octets out other : List ℕ) (d : ℕ) (side : Side) (same : sid
   -- t is what `take` returned, and arrays what was lent then
   module _ (took : Took) (all : took ≡ whole) (t : Taken) (arrays out′ other′ : List ℕ)
       (given : Given took out other (t .answer) (t .taken) (coreLent (t .control) arrays out′ other′ (t .written)))
-      (addresses : addressesLent arrays ≡ addressesLent (lent image room)) (size : length arrays ≡ 1058) where
+      (addresses : addressesLent arrays ≡ addressesLent (lent image room)) (size : length arrays ≡ lentSize) where
     abbrev next : Session
     next = sessionAfter s side (t .taken) (t .written .server) (t .written .client) (stateLent (t .control) arrays)
 
@@ -151,14 +153,14 @@ module _ (image octets out other : List ℕ) (d : ℕ) (side : Side) (same : sid
         ∙ takes-below (fixedOf s) side (stateOf s) octets (length out) (length other))
 
     -- what is written back makes the image of the next record
-    module _ (ok : isImage image ≡ true) (up down up′ down′ : Counts) (eu : up ≡ countsAt image 19) (ed : down ≡ countsAt image 27)
+    module _ (ok : isImage image ≡ true) (up down up′ down′ : Counts) (eu : up ≡ countsAt image upTakenAt) (ed : down ≡ countsAt image downTakenAt)
         (eu′ : up′ ≡ counted up (takenFor client side (t .taken)) (t .written .server))
         (ed′ : down′ ≡ counted down (takenFor server side (t .taken)) (t .written .client)) where
       abbrev fixed : List ℕ
-      fixed = bit (isSet image 0) ∷ bit (isSet image 1) ∷ []
+      fixed = bit (isSet image liveAt) ∷ bit (isSet image supportedAt) ∷ []
 
       abbrev marks : List ℕ
-      marks = marksFrom (isSet image 0) (isSet image 1) (t .control)
+      marks = marksFrom (isSet image liveAt) (isSet image supportedAt) (t .control)
 
       abbrev numbers : List ℕ
       numbers = numbersFrom (t .control) up′ down′
@@ -166,32 +168,32 @@ module _ (image octets out other : List ℕ) (d : ℕ) (side : Side) (same : sid
       next-image : (marks ++ numbers) ++ arrays ≡ imageOf next
       unfolding imageOf marksOf numbersOf arraysOf sessionAfter fieldsIn
       next-image =
-          let u : up′ ≡ counted (countsAt image 19) (takenFor client side (t .taken)) (t .written .server) =
+          let u : up′ ≡ counted (countsAt image upTakenAt) (takenFor client side (t .taken)) (t .written .server) =
           eu′ ∙ ap (λ (k : Counts). counted k (takenFor client side (t .taken)) (t .written .server)) eu in
-          let v : down′ ≡ counted (countsAt image 27) (takenFor server side (t .taken)) (t .written .client) =
+          let v : down′ ≡ counted (countsAt image downTakenAt) (takenFor server side (t .taken)) (t .written .client) =
           ed′ ∙ ap (λ (k : Counts). counted k (takenFor server side (t .taken)) (t .written .client)) ed in
           let kept = fixed-same arrays size (lent image room) (lent-size image room) addresses true ∙ fixed-lies image room true in
-          let same : arrays ≡ part image 35 16 ++ (part image 51 4 ++ (kindsLent arrays ++ (commandIn (linesLent arrays) ++ replyIn (linesLent arrays)))) =
+          let same : arrays ≡ part image clientAt ipv6Width ++ (part image mappedAt ipv4Width ++ (kindsLent arrays ++ (commandIn (linesLent arrays) ++ replyIn (linesLent arrays)))) =
           sym (arrays-lent arrays) ∙ (λ i. kept i .client ++ (kept i .mapped ++ (kindsLent arrays ++ (commandIn (linesLent arrays) ++ replyIn (linesLent arrays))))) in
           append-assoc marks numbers arrays
           ∙ (λ i. marks ++ (numbersFrom (t .control) (u i) (v i) ++ same i))
 
       -- the two marks that stay lie before what is written
-      all-marks : placed (putMid 35 1058 image arrays) 2 (marksIn (t .control) ++ numbers) ≡ placed (putMid 35 1058 image arrays) 0 (marks ++ numbers)
+      all-marks : placed (putMid clientAt lentSize image arrays) epsvAt (marksIn (t .control) ++ numbers) ≡ placed (putMid clientAt lentSize image arrays) 0 (marks ++ numbers)
       all-marks =
-          let head = length-take-le 35 image (omega arith) in
-          let front = front-length (isSet image 0) (isSet image 1) (t .control) up′ down′ in
-          let long = same-len-mid 35 1058 image arrays (size ∙ sym (lent-size image room)) in
+          let head = length-take-le clientAt image (omega arith) in
+          let front = front-length (isSet image liveAt) (isSet image supportedAt) (t .control) up′ down′ in
+          let long = same-len-mid clientAt lentSize image arrays (size ∙ sym (lent-size image room)) in
           let stay = fixed-marks image ok
-          ∙ sym (take-append-le 2 (take 35 image) (arrays ++ postOf 35 1058 image) (omega arith) ∙ take-take 2 35 image (omega arith)) in
-          rest-placed (putMid 35 1058 image arrays) fixed (marksIn (t .control) ++ numbers) (omega arith) stay
+          ∙ sym (take-append-le epsvAt (take clientAt image) (arrays ++ postOf clientAt lentSize image) (omega arith) ∙ take-take epsvAt clientAt image (omega arith)) in
+          rest-placed (putMid clientAt lentSize image arrays) fixed (marksIn (t .control) ++ numbers) (omega arith) stay
 
-      pub left : (image′ : List ℕ) → image′ ≡ placed (putMid 35 1058 image arrays) 2 (marksIn (t .control) ++ numbers)
+      pub left : (image′ : List ℕ) → image′ ≡ placed (putMid clientAt lentSize image arrays) epsvAt (marksIn (t .control) ++ numbers)
           → Left o (record { answer = t .answer; taken = t .taken; written = t .written }) image image′ out out′ other other′
       unfolding serverAfter clientAfter imageAfter choose
       left image′ e =
           let p = promised .0 in
-          let front = front-length (isSet image 0) (isSet image 1) (t .control) up′ down′ in
+          let front = front-length (isSet image liveAt) (isSet image supportedAt) (t .control) up′ down′ in
           let back = e ∙ (all-marks ∙ (patched image arrays (marks ++ numbers) room size front ∙ ap (placed image 0) next-image)) in (
             (
               record { answer = ap (λ (k : Called). k .answer) p; taken = ap (λ (k : Called). k .taken) p; written = ap (λ (k : Called). k .written) p },
@@ -252,7 +254,7 @@ module _ (image : List ℕ) (d : ℕ) (free : refusalOf (sessionOf image) d ≡ 
   pub free-image : isImage image ≡ true
   free-image = not-false (isImage image) (by-test (isImage image) refl)
 
-  pub free-size : 1093 ≤ length image
+  pub free-size : imageSize ≤ length image
   free-size = image-size image {b = isImage image} refl (by-test (isImage image) refl)
 
   pub free-fields : fieldsIn image ≡ sessionOf image

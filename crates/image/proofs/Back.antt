@@ -9,14 +9,14 @@ use lib.ListN.{length, take, drop, length-append, length-replicate}
 use lib.Seq.{take-at, drop-at}
 use borrow.Author.Tests.{le-leb}
 use Rattle.rules.specs.Octets.{choose, every}
-use Rattle.rules.specs.Lines.{judged}
+use Rattle.rules.specs.Lines.{judged, mostHeld}
 use Rattle.rules.specs.Answers.{mostOwed}
+use Rattle.records.specs.Layout.{liveAt, supportedAt, clientPlaceAt, upTakenAt, downTakenAt, clientAt, mappedAt, kindsAt, commandAt, replyAt, imageSize, lentMapped, lentKinds, lentCommand, lentReply, bitsSize, placesSize, ipv6Width, ipv4Width}
 use Rattle.places.specs.declared.Place.{Place}
 use Rattle.records.specs.declared.Session.{Session}
 use Rattle.session.specs.Calls.{deadSession}
 use Rattle.records.proofs.Refusals.{sound-countable}
 use Rattle.image.specs.Image.{
-  imageSize,
   bit,
   placeNumber,
   fourOctets,
@@ -94,11 +94,11 @@ module _ (s : Session) (rest : List ℕ) (h : Sized s) where
   enough : leb imageSize (length image) ≡ true
   enough = le-leb imageSize (length image) (rw length-append (omega (arith, image-length s h)))
 
-  marks : atMost 1 (part image 0 5) ≡ true
+  marks : atMost 1 (part image liveAt bitsSize) ≡ true
   unfolding imageOf marksOf atMost every
   marks = rw (bit-most (s .live), bit-most (s .supported), bit-most (s .control .switches .epsv), bit-most (s .control .switches .eprt), bit-most (s .control .unfinished))
 
-  places : atMost 3 (part image 5 2) ≡ true
+  places : atMost 3 (part image clientPlaceAt placesSize) ≡ true
   unfolding imageOf marksOf atMost every
   places = rw (place-most (s .control .client .place), place-most (s .control .server .place))
 
@@ -112,30 +112,30 @@ module _ (s : Session) (rest : List ℕ) (h : Sized s) where
       → take n (drop i (arraysOf s ++ rest)) ≡ x
   array a x b i n split e f = rw split (middle a x b i n e f)
 
-  client-back : part image 35 16 ≡ s .client
+  client-back : part image clientAt ipv6Width ≡ s .client
   unfolding imageOf marksOf numbersOf fourOctets arraysOf
-  client-back = array [] (s .client) (s .mapped ++ (s .kinds ++ (s .command ++ (s .reply ++ rest)))) 0 16 (simp append-assoc) refl (h .client)
+  client-back = array [] (s .client) (s .mapped ++ (s .kinds ++ (s .command ++ (s .reply ++ rest)))) 0 ipv6Width (simp append-assoc) refl (h .client)
 
-  mapped-back : part image 51 4 ≡ s .mapped
+  mapped-back : part image mappedAt ipv4Width ≡ s .mapped
   unfolding imageOf marksOf numbersOf fourOctets arraysOf
-  mapped-back = array (s .client) (s .mapped) (s .kinds ++ (s .command ++ (s .reply ++ rest))) 16 4 (simp append-assoc) (h .client) (h .mapped)
+  mapped-back = array (s .client) (s .mapped) (s .kinds ++ (s .command ++ (s .reply ++ rest))) lentMapped ipv4Width (simp append-assoc) (h .client) (h .mapped)
 
-  kinds-back : part image 55 16 ≡ s .kinds
+  kinds-back : part image kindsAt mostOwed ≡ s .kinds
   unfolding imageOf marksOf numbersOf fourOctets arraysOf
   kinds-back =
-      array (s .client ++ s .mapped) (s .kinds) (s .command ++ (s .reply ++ rest)) 20 16 (simp append-assoc) (rw length-append (omega (arith, h .client, h .mapped)))
+      array (s .client ++ s .mapped) (s .kinds) (s .command ++ (s .reply ++ rest)) lentKinds mostOwed (simp append-assoc) (rw length-append (omega (arith, h .client, h .mapped)))
       (h .kinds)
 
-  command-back : part image 71 511 ≡ s .command
+  command-back : part image commandAt mostHeld ≡ s .command
   unfolding imageOf marksOf numbersOf fourOctets arraysOf
   command-back =
-      array (s .client ++ (s .mapped ++ s .kinds)) (s .command) (s .reply ++ rest) 36 511 (simp append-assoc) (simp length-append (omega (arith, h .client, h .mapped, h .kinds)))
+      array (s .client ++ (s .mapped ++ s .kinds)) (s .command) (s .reply ++ rest) lentCommand mostHeld (simp append-assoc) (simp length-append (omega (arith, h .client, h .mapped, h .kinds)))
       (h .command)
 
-  reply-back : part image 582 511 ≡ s .reply
+  reply-back : part image replyAt mostHeld ≡ s .reply
   unfolding imageOf marksOf numbersOf fourOctets arraysOf
   reply-back =
-      array (s .client ++ (s .mapped ++ (s .kinds ++ s .command))) (s .reply) rest 547 511 (simp append-assoc)
+      array (s .client ++ (s .mapped ++ (s .kinds ++ s .command))) (s .reply) rest lentReply mostHeld (simp append-assoc)
       (simp length-append (omega (arith, h .client, h .mapped, h .kinds, h .command)))
       (h .reply)
 
@@ -149,19 +149,19 @@ module _ (s : Session) (rest : List ℕ) (h : Sized s) where
         let c = s .control in
         rw (bit-set (c .switches .epsv), bit-set (c .switches .eprt), bit-set (c .unfinished), place-back (c .client .place), place-back (c .server .place), capped-back (c .owed) owed, capped-back (c .client .held) command, capped-back (c .server .held) reply)
 
-    up-back : Wrapped (s .up) → countsAt image 19 ≡ s .up
+    up-back : Wrapped (s .up) → countsAt image upTakenAt ≡ s .up
     unfolding countsAt numberAt imageOf marksOf numbersOf fourOctets
     up-back w = rw (four-back (s .up .taken) (w .taken), four-back (s .up .written) (w .written))
 
-    down-back : Wrapped (s .down) → countsAt image 27 ≡ s .down
+    down-back : Wrapped (s .down) → countsAt image downTakenAt ≡ s .down
     unfolding countsAt numberAt imageOf marksOf numbersOf fourOctets
     down-back w = rw (four-back (s .down .taken) (w .taken), four-back (s .down .written) (w .written))
 
-    live-back : isSet image 0 ≡ s .live
+    live-back : isSet image liveAt ≡ s .live
     unfolding imageOf marksOf
     live-back = bit-set (s .live)
 
-    supported-back : isSet image 1 ≡ s .supported
+    supported-back : isSet image supportedAt ≡ s .supported
     unfolding imageOf marksOf
     supported-back = bit-set (s .supported)
 
@@ -176,14 +176,14 @@ read-back s rest h up down ok =
     fields-back s rest h (omega (arith, k .owed)) (omega (arith, k .command)) (omega (arith, k .reply)) up down
 
 pub dead-sized : Sized deadSession
-unfolding deadSession judged mostOwed
+unfolding deadSession judged
 dead-sized =
     record {
-      client = length-replicate {A = ℕ} 16 0;
-      mapped = length-replicate {A = ℕ} 4 0;
-      kinds = length-replicate {A = ℕ} 16 0;
-      command = length-replicate {A = ℕ} 511 0;
-      reply = length-replicate {A = ℕ} 511 0;
+      client = length-replicate {A = ℕ} ipv6Width 0;
+      mapped = length-replicate {A = ℕ} ipv4Width 0;
+      kinds = length-replicate {A = ℕ} mostOwed 0;
+      command = length-replicate {A = ℕ} mostHeld 0;
+      reply = length-replicate {A = ℕ} mostHeld 0;
     }
 
 pub dead-back : DeadBack
@@ -193,5 +193,5 @@ dead-back rest =
     fields-back deadSession rest dead-sized (omega arith) (omega arith) (omega arith) none none
 
 pub dead-zero : DeadZero
-unfolding deadSession judged mostOwed imageOf marksOf numbersOf arraysOf fourOctets capped choose bit placeNumber
+unfolding deadSession judged imageOf marksOf numbersOf arraysOf fourOctets capped choose bit placeNumber
 dead-zero = refl

@@ -8,6 +8,7 @@ use lib.ListN.{length, take, drop, set, getD, length-append}
 use lib.Seq.{take-append-le, drop-append-le}
 use Rattle.rules.specs.Octets.{choose}
 use Rattle.rules.specs.Answers.{Side, client, server, wrapped}
+use Rattle.records.specs.Layout.{imageSize}
 use Rattle.output.specs.Buffer.{placed}
 use Rattle.output.proofs.Placing.{placed-fits, length-placed, one-placed}
 use Rattle.output.proofs.Front.{front-placed}
@@ -41,9 +42,9 @@ over-front l t i x room there =
 -- memory l′ is l with a text of 1,093 octets at its front
 record Fronted (l l′ t : List ℕ) : Type 0 where
   here : l′ ≡ placed l 0 t
-  size : length t ≡ 1093
+  size : length t ≡ imageSize
 
-stored : (l : List ℕ) → 1093 ≤ length l → {l′ t : List ℕ} → Fronted l l′ t → (i : ℕ) (x : List ℕ) → i + length x ≤ 1093
+stored : (l : List ℕ) → imageSize ≤ length l → {l′ t : List ℕ} → Fronted l l′ t → (i : ℕ) (x : List ℕ) → i + length x ≤ imageSize
     → Fronted l (placed l′ i x) (over t i x)
 stored l room {l′} {t} f i x there =
     let size = f .size in

@@ -11,6 +11,8 @@ use borrow.Author.Tests.{le-leb, lt-leb}
 use Rattle.rules.specs.Octets.{choose}
 use Rattle.rules.specs.Answers.{Side, client, server, answerNumber}
 use Rattle.rules.specs.declared.Answer.{Answer}
+use Rattle.rules.specs.Lines.{mostHeld}
+use Rattle.records.specs.Layout.{commandAt, replyAt, imageSize}
 use Rattle.output.specs.Buffer.{placed, placeAfter}
 use Rattle.output.proofs.Front.{put-size, put-text}
 use Rattle.records.specs.declared.Control.{Control}
@@ -36,18 +38,18 @@ lineOf client s = s .command
 lineOf server s = s .reply
 
 -- a side's octets are held in no more than its line
-few : (d : Side) {c : Control} → Counted c → directionOf d c .held ≤ 511
+few : (d : Side) {c : Control} → Counted c → directionOf d c .held ≤ mostHeld
 few client k = k .command
 few server k = k .reply
 
 -- where a line lies is in an image
-pub line-low : (d : Side) {at : ℕ} → at ≡ lineAt d → at ≤ 582
+pub line-low : (d : Side) {at : ℕ} → at ≡ lineAt d → at ≤ replyAt
 line-low client e = omega arith
 line-low server e = omega arith
 
-line-long : (image : List ℕ) → 1093 ≤ length image → (d : Side) → length (part image (lineAt d) 511) ≡ 511
-line-long image room client = length-take-le 511 (drop 71 image) (omega (arith, length-drop 71 image))
-line-long image room server = length-take-le 511 (drop 582 image) (omega (arith, length-drop 582 image))
+line-long : (image : List ℕ) → imageSize ≤ length image → (d : Side) → length (part image (lineAt d) mostHeld) ≡ mostHeld
+line-long image room client = length-take-le mostHeld (drop commandAt image) (omega (arith, length-drop commandAt image))
+line-long image room server = length-take-le mostHeld (drop replyAt image) (omega (arith, length-drop replyAt image))
 
 -- the number that tells how many octets a side holds
 pub held-here : (image : List ℕ) (d : Side) {count h : ℕ} → count ≡ heldAt d → h ≡ numberAt image count → h ≡ directionOf d (controlIn image) .held
@@ -55,7 +57,7 @@ unfolding controlIn
 held-here image client p q = q ∙ ap (numberAt image) p
 held-here image server p q = q ∙ ap (numberAt image) p
 
-pub held-low : (image : List ℕ) (d : Side) {h : ℕ} → Counted (controlIn image) → h ≡ directionOf d (controlIn image) .held → h ≤ 511
+pub held-low : (image : List ℕ) (d : Side) {h : ℕ} → Counted (controlIn image) → h ≡ directionOf d (controlIn image) .held → h ≤ mostHeld
 held-low image d k e = let low = few d k in omega arith
 
 -- ---- what an end leaves
@@ -97,7 +99,7 @@ module _ (image out : List ℕ) (ok : isImage image ≡ true) (d : Side) {h : �
       subst (λ (b : Bool). LeftOne d (endOutcome s d t b) r image image out out) (sym (lt-leb held (length out) (omega (arith, held-is)))) (unended octets e)
 
   -- where they have room, and n of them were put
-  line-there : (e : Side) → part image (lineAt e) 511 ≡ lineOf e s
+  line-there : (e : Side) → part image (lineAt e) mostHeld ≡ lineOf e s
   unfolding fieldsIn lineOf
   line-there client = refl
   line-there server = refl
@@ -122,7 +124,7 @@ module _ (image out : List ℕ) (ok : isImage image ≡ true) (d : Side) {h : �
     unfolding fieldsIn
     text-is =
         let size : at + h - at ≡ held = omega (arith, held-is) in
-        (λ i. take (size i) (drop (ea i) image)) ∙ (sym (take-take held 511 (drop (lineAt d) image) (few d k)) ∙ ap (take held) (line-there d))
+        (λ i. take (size i) (drop (ea i) image)) ∙ (sym (take-take held mostHeld (drop (lineAt d) image) (few d k)) ∙ ap (take held) (line-there d))
 
     there : held ≤ length (lineOf d s)
     unfolding fieldsIn
@@ -134,7 +136,7 @@ module _ (image out : List ℕ) (ok : isImage image ≡ true) (d : Side) {h : �
     size : n ≡ length (take held (lineOf d s))
     size = put-size (lineOf d s) out held there fits (en ∙ ap (placeAfter out 0) text-is)
 
-    pub few-put : n ≤ 511
+    pub few-put : n ≤ mostHeld
     few-put = omega (arith, held-low image d k eh, held-is, size, length-take-le held (lineOf d s) there)
 
     module _ {out′ image′ : List ℕ} {w : Written} (eo : out′ ≡ placed out 0 (part image at (at + h - at))) (ew : w ≡ writtenFrom d n)

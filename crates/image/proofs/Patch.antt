@@ -7,6 +7,7 @@ use native.Mathlib.Omega.{arith}
 use lib.ListN.{length, take, drop, length-append, take-append-drop}
 use lib.Seq.{length-take-le, drop-at, drop-drop}
 use borrow.Rule.Slice.PartMut.{putMid, postOf}
+use Rattle.records.specs.Layout.{clientAt, imageSize, lentSize}
 use Rattle.output.specs.Buffer.{placed}
 use Rattle.output.proofs.Placing.{placed-after}
 use Rattle.output.proofs.Front.{front-placed}
@@ -22,19 +23,19 @@ rest-placed l a b room same =
     let there = unchanged l a (omega (arith, length-append a b)) same in
     (λ i. placed (sym there i) (sym (zero-add (length a)) i) b) ∙ placed-after l 0 a b (omega arith)
 
-module _ (image lent head : List ℕ) (room : 1093 ≤ length image) (size : length lent ≡ 1058) (front : length head ≡ 35) where
-  pub patched : placed (putMid 35 1058 image lent) 0 head ≡ placed image 0 (head ++ lent)
+module _ (image lent head : List ℕ) (room : imageSize ≤ length image) (size : length lent ≡ lentSize) (front : length head ≡ clientAt) where
+  pub patched : placed (putMid clientAt lentSize image lent) 0 head ≡ placed image 0 (head ++ lent)
   patched =
-      let first = length-take-le 35 image (omega arith) in
-      let rest = lent ++ postOf 35 1058 image in
-      let long = length-append (take 35 image) rest in
+      let first = length-take-le clientAt image (omega arith) in
+      let rest = lent ++ postOf clientAt lentSize image in
+      let long = length-append (take clientAt image) rest in
       let both = length-append head lent in
-      let behind : drop (length head) (putMid 35 1058 image lent) ≡ rest =
-      ap (λ (n : ℕ). drop n (take 35 image ++ rest)) front ∙ drop-at (take 35 image) rest 35 first in
-      let whole : length (head ++ lent) ≡ 1093 = omega arith in
-      let end : drop (length (head ++ lent)) image ≡ postOf 35 1058 image =
-      ap (λ (n : ℕ). drop n image) whole ∙ sym (drop-drop 1058 35 image) in
-      front-placed (putMid 35 1058 image lent) head (omega arith)
+      let behind : drop (length head) (putMid clientAt lentSize image lent) ≡ rest =
+      ap (λ (n : ℕ). drop n (take clientAt image ++ rest)) front ∙ drop-at (take clientAt image) rest clientAt first in
+      let whole : length (head ++ lent) ≡ imageSize = omega arith in
+      let end : drop (length (head ++ lent)) image ≡ postOf clientAt lentSize image =
+      ap (λ (n : ℕ). drop n image) whole ∙ sym (drop-drop lentSize clientAt image) in
+      front-placed (putMid clientAt lentSize image lent) head (omega arith)
       ∙ (ap (λ (l : List ℕ). head ++ l) behind
-      ∙ (sym (append-assoc head lent (postOf 35 1058 image))
+      ∙ (sym (append-assoc head lent (postOf clientAt lentSize image))
       ∙ (ap (λ (l : List ℕ). (head ++ lent) ++ l) (sym end) ∙ sym (front-placed image (head ++ lent) (omega arith)))))

@@ -9,8 +9,10 @@ use lib.Dec.{leb}
 use lib.Seq.{length-take-le}
 use borrow.Author.Tests.{le-leb, lt-leb, leb-true, not-true, not-false}
 use Rattle.rules.specs.Octets.{choose}
-use Rattle.rules.specs.Answers.{soundRecord}
+use Rattle.rules.specs.Answers.{soundRecord, mostOwed}
 use Rattle.rules.specs.declared.Answer.{Answer}
+use Rattle.rules.specs.Lines.{mostHeld}
+use Rattle.records.specs.Layout.{liveAt, supportedAt, clientPlaceAt, upTakenAt, downTakenAt, clientAt, mappedAt, kindsAt, commandAt, replyAt, imageSize, bitsSize, placesSize, ipv6Width, ipv4Width}
 use Rattle.octets.proofs.Ranges.{and-both}
 use Rattle.places.specs.declared.Place.{Place}
 use Rattle.output.specs.Buffer.{placed}
@@ -22,7 +24,7 @@ use Rattle.records.specs.declared.Refusal.{Refusal}
 use Rattle.records.specs.Sound.{sound, refusalOn, refusalOf, refusalBy}
 use Rattle.records.proofs.Refusals.{unsound}
 use Rattle.session.specs.Calls.{deadSession}
-use Rattle.image.specs.Image.{imageSize, placeOf, isSet, part, countsAt, controlIn, fieldsIn, atMost, isImage, sessionOf}
+use Rattle.image.specs.Image.{placeOf, isSet, part, countsAt, controlIn, fieldsIn, atMost, isImage, sessionOf}
 
 pub place-other : (n : ℕ) → (n ≡ 0 → ⊥) → (n ≡ 1 → ⊥) → (n ≡ 2 → ⊥) → Place.Ended ≡ placeOf n
 unfolding placeOf
@@ -40,14 +42,14 @@ copied image i n there e =
 
 -- a record of the parts that were read
 pub fields-read : (image : List ℕ) {client mapped kinds command reply : List ℕ} {control : Control} {up down : Counts}
-    → client ≡ part image 35 16 → mapped ≡ part image 51 4 → kinds ≡ part image 55 16 → command ≡ part image 71 511
-    → reply ≡ part image 582 511 → control ≡ controlIn image → up ≡ countsAt image 19 → down ≡ countsAt image 27
+    → client ≡ part image clientAt ipv6Width → mapped ≡ part image mappedAt ipv4Width → kinds ≡ part image kindsAt mostOwed → command ≡ part image commandAt mostHeld
+    → reply ≡ part image replyAt mostHeld → control ≡ controlIn image → up ≡ countsAt image upTakenAt → down ≡ countsAt image downTakenAt
     → _≡_ {A = Session}
     (record {
-      live = isSet image 0;
+      live = isSet image liveAt;
       client = client;
       mapped = mapped;
-      supported = isSet image 1;
+      supported = isSet image supportedAt;
       control = control;
       command = command;
       reply = reply;
@@ -66,13 +68,13 @@ module _ (image : List ℕ) where
   unfolding isImage
   too-short h = rw (lt-leb imageSize (length image) h)
 
-  pub no-mark : imageSize ≤ length image → {b : Bool} → b ≡ atMost 1 (part image 0 5) → not b ≡ true → false ≡ isImage image
+  pub no-mark : imageSize ≤ length image → {b : Bool} → b ≡ atMost 1 (part image liveAt bitsSize) → not b ≡ true → false ≡ isImage image
   unfolding isImage
   no-mark h {b} e t = rw (le-leb imageSize (length image) h, sym e ∙ not-true b t)
 
   -- the places decide where the other tests hold
-  pub by-places : imageSize ≤ length image → {a b : Bool} → a ≡ atMost 1 (part image 0 5) → not a ≡ false
-      → b ≡ atMost 3 (part image 5 2) → b ≡ isImage image
+  pub by-places : imageSize ≤ length image → {a b : Bool} → a ≡ atMost 1 (part image liveAt bitsSize) → not a ≡ false
+      → b ≡ atMost 3 (part image clientPlaceAt placesSize) → b ≡ isImage image
   unfolding isImage
   by-places h {a} e t f = rw (le-leb imageSize (length image) h, sym e ∙ not-false a t) f
 
@@ -80,7 +82,7 @@ module _ (image : List ℕ) where
   unfolding isImage
   image-size {b} e t =
       let long = leb imageSize (length image) in
-      let marked = atMost 1 (part image 0 5) in
+      let marked = atMost 1 (part image liveAt bitsSize) in
       leb-true imageSize (length image) (and-both long marked (and-both (long && marked) _ (sym e ∙ not-false b t) .0) .0)
 
   pub no-image : {b : Bool} → b ≡ isImage image → not b ≡ true → deadSession ≡ sessionOf image
@@ -104,7 +106,7 @@ module _ (image : List ℕ) (d : ℕ) {b : Bool} (e : b ≡ isImage image) where
   pub refused-image : not b ≡ false → {r : Refusal} → r ≡ refusalBy (refusalOf (fieldsIn image) d) → r ≡ refusalBy (refusalOf (sessionOf image) d)
   refused-image t r = r ∙ ap (λ (s : Session). refusalBy (refusalOf s d)) (is-image image e t)
 
-pub refused-by-parts : (image : List ℕ) (d : ℕ) {control : Control} → control ≡ controlIn image → {kinds : List ℕ} → kinds ≡ part image 55 16
-    → {r : Refusal} → r ≡ refusalBy (refusalOn (isSet image 0) control kinds d) → r ≡ refusalBy (refusalOf (fieldsIn image) d)
+pub refused-by-parts : (image : List ℕ) (d : ℕ) {control : Control} → control ≡ controlIn image → {kinds : List ℕ} → kinds ≡ part image kindsAt mostOwed
+    → {r : Refusal} → r ≡ refusalBy (refusalOn (isSet image liveAt) control kinds d) → r ≡ refusalBy (refusalOf (fieldsIn image) d)
 unfolding refusalOf sound fieldsIn
 refused-by-parts image d p q r = r ∙ rw (p, q)

@@ -5,12 +5,13 @@ use mathlib.Core.List.{List, _++_}
 use Prim.Native.Nat.{ℕ}
 use native.Mathlib.Omega.{arith}
 use lib.ListN.{length, length-append}
+use Rattle.records.specs.Layout.{clientAt, imageSize, lentSize}
 use Rattle.output.specs.Buffer.{PlacedInRoom}
 use Rattle.output.proofs.Placing.{Wrote, joined}
 use Rattle.records.specs.declared.Control.{Control}
 use Rattle.records.specs.declared.Counts.{Counts}
 use Rattle.records.specs.declared.Session.{Session}
-use Rattle.image.specs.Image.{Sized, imageSize, capped, fourOctets, marksFrom, numbersBy, numbersFrom, marksOf, numbersOf, arraysOf, imageOf}
+use Rattle.image.specs.Image.{Sized, capped, fourOctets, marksFrom, numbersBy, numbersFrom, marksOf, numbersOf, arraysOf, imageOf}
 
 -- a part that was put, and those behind it
 pub andThen : (out : List ℕ) (at : ℕ) (a b : List ℕ) {after last : List ℕ} {next end : ℕ} → Wrote out at a next after
@@ -24,11 +25,11 @@ pub numbers-put : (out : List ℕ) (at : ℕ) (c : Control) (up down : Counts) {
 numbers-put out at c up down {end = end} {last = last} eo ec er =
     subst (λ (l : List ℕ). PlacedInRoom out at l end last) (λ i. numbersBy (eo i) (ec i) (er i) up down)
 
-pub front-length : (live supported : Bool) (c : Control) (up down : Counts) → length (marksFrom live supported c ++ numbersFrom c up down) ≡ 35
+pub front-length : (live supported : Bool) (c : Control) (up down : Counts) → length (marksFrom live supported c ++ numbersFrom c up down) ≡ clientAt
 unfolding fourOctets
 front-length live supported c up down = refl
 
-pub arrays-length : (s : Session) → Sized s → length (arraysOf s) ≡ 1058
+pub arrays-length : (s : Session) → Sized s → length (arraysOf s) ≡ lentSize
 unfolding arraysOf
 arrays-length s h =
     simp length-append (omega (arith, h .client, h .mapped, h .kinds, h .command, h .reply))

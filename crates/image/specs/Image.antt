@@ -6,6 +6,9 @@ use Prim.Native.Nat.{ℕ, zero, suc, _+_, _-_, _*_, _/_, _%_, _^_, _<_}
 use lib.Dec.{leb, eqb}
 use lib.ListN.{length, getD, take, drop, replicate}
 use Rattle.rules.specs.Octets.{choose, every}
+use Rattle.rules.specs.Lines.{mostHeld}
+use Rattle.rules.specs.Answers.{mostOwed}
+use Rattle.records.specs.Layout.{numberWidth, liveAt, supportedAt, epsvAt, eprtAt, unfinishedAt, clientPlaceAt, serverPlaceAt, owedAt, clientHeldAt, serverHeldAt, upTakenAt, downTakenAt, clientAt, mappedAt, kindsAt, commandAt, replyAt, imageSize, bitsSize, placesSize, ipv6Width, ipv4Width}
 use Rattle.places.specs.declared.Place.{Place}
 use Rattle.places.specs.Places.{at}
 use Rattle.records.specs.declared.Control.{Control}
@@ -13,10 +16,6 @@ use Rattle.records.specs.declared.Counts.{Counts}
 use Rattle.records.specs.declared.Session.{Session}
 use Rattle.session.specs.Calls.{deadSession}
 use Rattle.records.specs.Sound.{sound}
-
--- 7 marks, 7 numbers of four octets, 16 and 4 octets of addresses, 16 kinds, two lines of 511
-abbrev pub imageSize : ℕ
-imageSize = 1093
 
 -- ---- values as octets
 
@@ -98,31 +97,31 @@ abbrev pub part : List ℕ → ℕ → ℕ → List ℕ
 part image i n = take n (drop i image)
 
 unfoldable pub countsAt : List ℕ → ℕ → Counts
-countsAt image i = record { taken = numberAt image i; written = numberAt image (i + 4) }
+countsAt image i = record { taken = numberAt image i; written = numberAt image (i + numberWidth) }
 
 unfoldable pub controlIn : List ℕ → Control
 controlIn image =
     record {
-      switches = record { epsv = isSet image 2; eprt = isSet image 3 };
-      client = at (placeOf (getD image 5 0)) (numberAt image 11);
-      server = at (placeOf (getD image 6 0)) (numberAt image 15);
-      owed = numberAt image 7;
-      unfinished = isSet image 4;
+      switches = record { epsv = isSet image epsvAt; eprt = isSet image eprtAt };
+      client = at (placeOf (getD image clientPlaceAt 0)) (numberAt image clientHeldAt);
+      server = at (placeOf (getD image serverPlaceAt 0)) (numberAt image serverHeldAt);
+      owed = numberAt image owedAt;
+      unfinished = isSet image unfinishedAt;
     }
 
 unfoldable pub fieldsIn : List ℕ → Session
 fieldsIn image =
     record {
-      live = isSet image 0;
-      client = part image 35 16;
-      mapped = part image 51 4;
-      supported = isSet image 1;
+      live = isSet image liveAt;
+      client = part image clientAt ipv6Width;
+      mapped = part image mappedAt ipv4Width;
+      supported = isSet image supportedAt;
       control = controlIn image;
-      command = part image 71 511;
-      reply = part image 582 511;
-      kinds = part image 55 16;
-      up = countsAt image 19;
-      down = countsAt image 27;
+      command = part image commandAt mostHeld;
+      reply = part image replyAt mostHeld;
+      kinds = part image kindsAt mostOwed;
+      up = countsAt image upTakenAt;
+      down = countsAt image downTakenAt;
     }
 
 unfoldable pub atMost : ℕ → List ℕ → Bool
@@ -130,7 +129,7 @@ atMost most octets = every (λ n. leb n most) octets
 
 -- there are octets enough, and each mark has a value of its field
 unfoldable pub isImage : List ℕ → Bool
-isImage image = leb imageSize (length image) && atMost 1 (part image 0 5) && atMost 3 (part image 5 2)
+isImage image = leb imageSize (length image) && atMost 1 (part image liveAt bitsSize) && atMost 3 (part image clientPlaceAt placesSize)
 
 -- what is no image is the record of a refused setup, which number 4 refuses
 unfoldable pub sessionOf : List ℕ → Session
@@ -140,11 +139,11 @@ sessionOf image = choose (isImage image) (fieldsIn image) deadSession
 
 -- what the types of a record's arrays say of their lengths
 pub record Sized (s : Session) : Type 0 where
-  pub client : length (s .client) ≡ 16
-  pub mapped : length (s .mapped) ≡ 4
-  pub kinds : length (s .kinds) ≡ 16
-  pub command : length (s .command) ≡ 511
-  pub reply : length (s .reply) ≡ 511
+  pub client : length (s .client) ≡ ipv6Width
+  pub mapped : length (s .mapped) ≡ ipv4Width
+  pub kinds : length (s .kinds) ≡ mostOwed
+  pub command : length (s .command) ≡ mostHeld
+  pub reply : length (s .reply) ≡ mostHeld
 
 -- and what those of its counters say
 pub record Wrapped (c : Counts) : Type 0 where

@@ -6,6 +6,7 @@ use lib.Dec.{leb}
 use lib.ListN.{length, drop}
 use Rattle.rules.specs.Octets.{choose}
 use Rattle.rules.specs.Answers.{Side, client, server, answerNumber}
+use Rattle.records.specs.Layout.{commandAt, replyAt, clientPlaceAt, serverPlaceAt, clientHeldAt, serverHeldAt, upWrittenAt, downWrittenAt}
 use Rattle.output.specs.Buffer.{placed}
 use Rattle.records.specs.declared.Session.{Session}
 use Rattle.records.specs.Sound.{directionOf}
@@ -54,23 +55,23 @@ endedWith s d n = sessionAfter s d 0 (writtenFrom d n .server) (writtenFrom d n 
 
 -- where an image has a side's place
 abbrev pub placeAt : Side → ℕ
-placeAt client = 5
-placeAt server = 6
+placeAt client = clientPlaceAt
+placeAt server = serverPlaceAt
 
 -- the number of its held octets
 abbrev pub heldAt : Side → ℕ
-heldAt client = 11
-heldAt server = 15
+heldAt client = clientHeldAt
+heldAt server = serverHeldAt
 
 -- its line: the command's, or the reply's
 abbrev pub lineAt : Side → ℕ
-lineAt client = 71
-lineAt server = 582
+lineAt client = commandAt
+lineAt server = replyAt
 
 -- and the count of what was written for it
 abbrev pub writtenAt : Side → ℕ
-writtenAt client = 23
-writtenAt server = 31
+writtenAt client = upWrittenAt
+writtenAt server = downWrittenAt
 
 -- what a call returned, beside the record
 pub record Tells (r : Told) (k : Called) : Type 0 where

@@ -11,6 +11,7 @@ use crate::put_back;
 use crate::refusal_in;
 use arrivals::take;
 use records::Refusal;
+use records::layout;
 use rules::Answer;
 use session::counts_then;
 use steps::Written;
@@ -68,16 +69,16 @@ fn take_at(
         × (now («to_client» .exit) ≡ clientAfter o (now («to_client» .entry))) ⌝ }
 {
     let from_client = direction == 0;
-    let supported = image[1] == 1;
+    let supported = image[layout::SUPPORTED] == 1;
     let control = control_in(image);
-    let up = counts_at(image, 19);
-    let down = counts_at(image, 27);
+    let up = counts_at(image, layout::UP_TAKEN);
+    let down = counts_at(image, layout::DOWN_TAKEN);
     let t = take(
         supported,
         from_client,
         control,
         octets,
-        &mut image[35..1093],
+        &mut image[layout::CLIENT..layout::SIZE],
         to_server,
         to_client,
     );

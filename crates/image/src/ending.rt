@@ -6,6 +6,7 @@ ghost use Prim.Native.Nat.{_≤_};
 ghost use Rattle.output.specs.Buffer.{placed};
 ghost use Rattle.records.specs.Sound.{sideIf, Counted};
 ghost use lib.ListN.{length};
+ghost use Rattle.rules.specs.Lines.{mostHeld};
 ghost use Rattle.image.specs.Image.{imageOf, controlIn, fieldsIn, isImage};
 ghost use Rattle.image.specs.Lent.{endedAt, heldEnd, endedWith, placeAt, heldAt, lineAt, writtenAt, writtenFrom, imageAfter, serverAfter, clientAfter, bufferAfter, Tells};
 use crate::Told;
@@ -16,6 +17,7 @@ use crate::put_number;
 use crate::refusal_in;
 use output::put;
 use records::Refusal;
+use records::layout;
 use rules::Answer;
 use steps::Written;
 
@@ -72,7 +74,7 @@ fn end_held(image: &mut [u8], from_client: bool, out: &mut [u8]) -> Told
 
 // A direction has ended and holds nothing, and n octets more were written for it. No other octet changes.
 fn put_end(image: &mut [u8], from_client: bool, n: usize)
-    requires { ⌜ (isImage (now image) ≡ true) × (n ≤ 511) ⌝ }
+    requires { ⌜ (isImage (now image) ≡ true) × (n ≤ mostHeld) ⌝ }
     ensures { λ _.
         ⌜ now (image .exit) ≡ placed (now (image .entry)) 0 (imageOf (endedWith (fieldsIn (now (image .entry))) (sideIf «from_client») n)) ⌝ }
 {
@@ -90,9 +92,9 @@ fn place_at(from_client: bool) -> usize
     ensures { λ r. ⌜ r ≡ placeAt (sideIf «from_client») ⌝ }
 {
     if from_client {
-        return 5;
+        return layout::CLIENT_PLACE;
     }
-    6
+    layout::SERVER_PLACE
 }
 
 // Where the number of its held octets lies.
@@ -100,9 +102,9 @@ fn held_at(from_client: bool) -> usize
     ensures { λ r. ⌜ r ≡ heldAt (sideIf «from_client») ⌝ }
 {
     if from_client {
-        return 11;
+        return layout::CLIENT_HELD;
     }
-    15
+    layout::SERVER_HELD
 }
 
 // Where its line lies: the command's, or the reply's.
@@ -110,9 +112,9 @@ fn line_at(from_client: bool) -> usize
     ensures { λ r. ⌜ r ≡ lineAt (sideIf «from_client») ⌝ }
 {
     if from_client {
-        return 71;
+        return layout::COMMAND;
     }
-    582
+    layout::REPLY
 }
 
 // Where what it has written is counted.
@@ -120,9 +122,9 @@ fn written_at(from_client: bool) -> usize
     ensures { λ r. ⌜ r ≡ writtenAt (sideIf «from_client») ⌝ }
 {
     if from_client {
-        return 23;
+        return layout::UP_WRITTEN;
     }
-    31
+    layout::DOWN_WRITTEN
 }
 
 // What was written for a direction: the client's octets go to the server.

@@ -3,6 +3,8 @@ ghost use mathlib.Core.Path.{_≡_};
 ghost use Prim.Native.Nat.{_+_, _≤_};
 ghost use mathlib.Core.List.{_++_};
 ghost use lib.ListN.{length};
+ghost use Rattle.rules.specs.Lines.{mostHeld};
+ghost use Rattle.records.specs.Layout.{numberWidth, epsvAt, imageSize};
 ghost use Rattle.output.specs.Buffer.{placed, placeAfter, PlacedInRoom};
 ghost use Rattle.records.specs.Sound.{refusalOf, refusalBy, Counted};
 ghost use Rattle.session.specs.Calls.{deadSession};
@@ -16,6 +18,7 @@ use records::Control;
 use records::Counts;
 use records::Refusal;
 use records::Session;
+use records::layout;
 use records::refusal_on;
 use rules::Switches;
 use session::held_line;
@@ -28,20 +31,23 @@ pub use arrival::Told;
 pub use arrival::arrive_at;
 pub use ending::end_at;
 
-// The octets of an image.
-pub const SIZE: usize = 1093;
-
 // Puts a record's image at the front of lent memory, or nothing where it does not fit.
 pub fn put_image(image: &mut [u8], session: Session)
     ensures { λ _. ⌜ now (image .exit) ≡ placed (now (image .entry)) 0 (imageOf session) ⌝ }
 {
-    if image.len() < SIZE {
+    if image.len() < layout::SIZE {
         return;
     }
     let control = session.control;
     let up = session.up;
     let down = session.down;
-    let marked = put_marks(image, 0, session.live, session.supported, control);
+    let marked = put_marks(
+        image,
+        layout::LIVE,
+        session.live,
+        session.supported,
+        control,
+    );
     let said = control.client;
     let answered = control.server;
     let owed = capped(control.owed);
@@ -131,7 +137,7 @@ fn capped(n: usize) -> u32
 
 // A count that an array can hold needs no cap: a call writes three of them.
 fn uncapped(n: usize) -> u32
-    requires { ⌜ n ≤ 511 ⌝ }
+    requires { ⌜ n ≤ mostHeld ⌝ }
     ensures { λ r. ⌜ r ≡ cappedAt n ⌝ }
 {
     n as u32
@@ -168,16 +174,16 @@ fn put_arrays(out: &mut [u8], at: usize, session: Session) -> usize
 
 // Writes what calls can change of the marks and numbers back. The rest lies there already.
 fn put_back(image: &mut [u8], control: Control, up: Counts, down: Counts)
-    requires { ⌜ (1093 ≤ length (now image)) × Counted control ⌝ }
+    requires { ⌜ (imageSize ≤ length (now image)) × Counted control ⌝ }
     ensures { λ _.
-        ⌜ now (image .exit) ≡ placed (now (image .entry)) 2 (marksIn control ++ numbersFrom control up down) ⌝ }
+        ⌜ now (image .exit) ≡ placed (now (image .entry)) epsvAt (marksIn control ++ numbersFrom control up down) ⌝ }
 {
     let said = control.client;
     let answered = control.server;
     let owed = uncapped(control.owed);
     let command = uncapped(said.held);
     let reply = uncapped(answered.held);
-    let marked = put_control(image, 2, control);
+    let marked = put_control(image, layout::EPSV, control);
     put_numbers(image, marked, owed, command, reply, up, down);
 }
 
@@ -195,13 +201,13 @@ pub fn read_image(image: &[u8]) -> Session
 fn is_image(image: &[u8]) -> bool
     ensures { λ r. ⌜ r ≡ isImage (now (image .entry)) ⌝ }
 {
-    if image.len() < SIZE {
+    if image.len() < layout::SIZE {
         return false;
     }
-    if !at_most(&image[..5], 1) {
+    if !at_most(&image[layout::LIVE..layout::CLIENT_PLACE], 1) {
         return false;
     }
-    at_most(&image[5..7], 3)
+    at_most(&image[layout::CLIENT_PLACE..layout::COUNT_OWED], 3)
 }
 
 fn dead() -> Session
@@ -226,19 +232,19 @@ fn at_most(octets: &[u8], most: u8) -> bool
 }
 
 fn fields(image: &[u8]) -> Session
-    requires { ⌜ 1093 ≤ length (now image) ⌝ }
+    requires { ⌜ imageSize ≤ length (now image) ⌝ }
     ensures { λ r. ⌜ r ≡ fieldsIn (now (image .entry)) ⌝ }
 {
-    let live = image[0] == 1;
-    let supported = image[1] == 1;
-    let client = sixteen(&image[35..51]);
-    let mapped = four(&image[51..55]);
-    let kinds = sixteen(&image[55..71]);
-    let command = held_line(&image[71..582]);
-    let reply = held_line(&image[582..1093]);
+    let live = image[layout::LIVE] == 1;
+    let supported = image[layout::SUPPORTED] == 1;
+    let client = sixteen(&image[layout::CLIENT..layout::MAPPED]);
+    let mapped = four(&image[layout::MAPPED..layout::KINDS]);
+    let kinds = sixteen(&image[layout::KINDS..layout::COMMAND]);
+    let command = held_line(&image[layout::COMMAND..layout::REPLY]);
+    let reply = held_line(&image[layout::REPLY..layout::SIZE]);
     let control = control_in(image);
-    let up = counts_at(image, 19);
-    let down = counts_at(image, 27);
+    let up = counts_at(image, layout::UP_TAKEN);
+    let down = counts_at(image, layout::DOWN_TAKEN);
     Session {
         live,
         client,
@@ -255,36 +261,36 @@ fn fields(image: &[u8]) -> Session
 
 // What refuses a call on the record of an image, told from its marks, numbers and kinds alone.
 fn refusal_in(image: &[u8], direction: u8) -> Refusal
-    requires { ⌜ 1093 ≤ length (now image) ⌝ }
+    requires { ⌜ imageSize ≤ length (now image) ⌝ }
     ensures { λ r. ⌜ r ≡ refusalBy (refusalOf (fieldsIn (now (image .entry))) direction) ⌝ }
 {
     let control = control_in(image);
-    let kinds = sixteen(&image[55..71]);
-    refusal_on(image[0] == 1, control, kinds, direction)
+    let kinds = sixteen(&image[layout::KINDS..layout::COMMAND]);
+    refusal_on(image[layout::LIVE] == 1, control, kinds, direction)
 }
 
 fn control_in(image: &[u8]) -> Control
-    requires { ⌜ 1093 ≤ length (now image) ⌝ }
+    requires { ⌜ imageSize ≤ length (now image) ⌝ }
     ensures { λ r. ⌜ r ≡ controlIn (now (image .entry)) ⌝ }
 {
     let switches = Switches {
-        epsv: image[2] == 1,
-        eprt: image[3] == 1,
+        epsv: image[layout::EPSV] == 1,
+        eprt: image[layout::EPRT] == 1,
     };
     let client = Direction {
-        place: place_of(image[5]),
-        held: number_at(image, 11) as usize,
+        place: place_of(image[layout::CLIENT_PLACE]),
+        held: number_at(image, layout::CLIENT_HELD) as usize,
     };
     let server = Direction {
-        place: place_of(image[6]),
-        held: number_at(image, 15) as usize,
+        place: place_of(image[layout::SERVER_PLACE]),
+        held: number_at(image, layout::SERVER_HELD) as usize,
     };
     Control {
         switches,
         client,
         server,
-        owed: number_at(image, 7) as usize,
-        unfinished: image[4] == 1,
+        owed: number_at(image, layout::COUNT_OWED) as usize,
+        unfinished: image[layout::UNFINISHED] == 1,
     }
 }
 
@@ -300,18 +306,18 @@ fn place_of(n: u8) -> Place
 }
 
 fn counts_at(image: &[u8], at: usize) -> Counts
-    requires { ⌜ at + 8 ≤ length (now image) ⌝ }
+    requires { ⌜ at + (numberWidth + numberWidth) ≤ length (now image) ⌝ }
     ensures { λ r. ⌜ r ≡ countsAt (now (image .entry)) at ⌝ }
 {
     Counts {
         taken: number_at(image, at),
-        written: number_at(image, at + 4),
+        written: number_at(image, at + layout::NUMBER),
     }
 }
 
 // The number in four octets, low octet first, as the one sum that the compiler makes one load of.
 fn number_at(image: &[u8], at: usize) -> u32
-    requires { ⌜ at + 4 ≤ length (now image) ⌝ }
+    requires { ⌜ at + numberWidth ≤ length (now image) ⌝ }
     ensures { λ r. ⌜ r ≡ numberAt (now (image .entry)) at ⌝ }
 {
     let first = wide(image[at]);

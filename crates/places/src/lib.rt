@@ -6,9 +6,7 @@ ghost use lib.Dec.{ltb};
 ghost use lib.ListN.{take};
 ghost use Rattle.rules.specs.Lines.{judged};
 ghost use Rattle.places.specs.Places.{at, isHolding, isFlowing, isPassing, isEnded, passesFromNow};
-
-// A line of up to this many octets, LF included, is judged whole.
-pub const JUDGED: usize = 512;
+use rules::HELD;
 
 pub const LF: u8 = 10;
 
@@ -41,7 +39,7 @@ pub fn is_held(held: usize) -> bool
     ensures test { λ r. ⌜ r ≡ ltb (held + 1) judged ⌝ }
     ensures fits { λ r. ⌜ (r ≡ true → held + 1 < 65536) ⌝ }
 {
-    held < JUDGED - 1
+    held < HELD
 }
 
 // Its line's octets are held.

@@ -20,16 +20,20 @@ answerCode OwnAnswer.ProtocolNotSupported = 2
 answerCode OwnAnswer.ParameterNotImplemented = 3
 answerCode (OwnAnswer.State sw) = stateCode (sw .epsv) (sw .eprt)
 
+-- the last number of a kind
+abbrev pub lastCode : ℕ
+lastCode = 8
+
 -- the number of a kind
 unfoldable pub codeOf : Kind → ℕ
 codeOf Kind.Plain = 0
 codeOf Kind.TranslatedEpsv = 1
 codeOf (Kind.Own a) = answerCode a
-codeOf Kind.Auth = 8
+codeOf Kind.Auth = lastCode
 
--- "an owed kind not listed here" has a number over 8
+-- "an owed kind not listed here" has a number over the last one
 unfoldable pub isListed : ℕ → Bool
-isListed n = leb n 8
+isListed n = leb n lastCode
 
 abbrev pub stateKind : Bool → Bool → Kind
 stateKind epsv eprt = Kind.Own (OwnAnswer.State (record { epsv = epsv; eprt = eprt }))
@@ -44,7 +48,7 @@ kindOf n =
     (choose (eqb n 5) (stateKind true false)
     (choose (eqb n 6) (stateKind false true)
     (choose (eqb n 7) (stateKind true true)
-    (choose (eqb n 8) Kind.Auth Kind.Plain)))))))
+    (choose (eqb n lastCode) Kind.Auth Kind.Plain)))))))
 
 -- the kinds owed, first one first
 unfoldable pub queueOf : List ℕ → ℕ → List Kind

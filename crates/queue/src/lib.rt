@@ -4,14 +4,20 @@ ghost use mathlib.Core.Path.{_≡_};
 ghost use Prim.Native.Nat.{_+_, _≤_};
 ghost use lib.ListN.{length, drop};
 ghost use Rattle.rules.specs.Replies.{headAnswers, authAtHead};
+ghost use Rattle.rules.specs.Answers.{mostAnswers};
 ghost use Rattle.output.specs.Buffer.{placed, placeAfter};
 ghost use Rattle.queue.specs.Kinds.{answerCode, codeOf, stateKind, kindOf, queueOf, headOf, answersAtHead, pushed, shiftedIn, isStill};
 ghost use Rattle.queue.specs.Heads.{answerFirst, planOf};
 use own::answer_length;
 use own::put_answer;
 use rules::Kind;
+use rules::Kinds;
+use rules::OWED;
 use rules::OwnAnswer;
 use rules::Switches;
+
+// The last number of a kind: a record with a higher one is refused.
+pub const LAST: u8 = 8;
 
 // A kind owed, or none.
 pub enum Owes {
@@ -27,7 +33,7 @@ fn code_of(kind: Kind) -> u8
         Kind::Plain => 0,
         Kind::TranslatedEpsv => 1,
         Kind::Own(answer) => answer_code(answer),
-        Kind::Auth => 8,
+        Kind::Auth => LAST,
     }
 }
 
@@ -90,7 +96,7 @@ enum Next {
 }
 
 // The first kind owed.
-pub fn first_owed(kinds: [u8; 16], owed: usize) -> Owes
+pub fn first_owed(kinds: Kinds, owed: usize) -> Owes
     ensures { λ r. ⌜ r ≡ headOf kinds owed ⌝ }
 {
     if owed == 0 {
@@ -100,13 +106,13 @@ pub fn first_owed(kinds: [u8; 16], owed: usize) -> Owes
 }
 
 // The own answer that is number `i` of the kinds owed.
-fn answer_at(kinds: [u8; 16], i: usize, owed: usize) -> Next
+fn answer_at(kinds: Kinds, i: usize, owed: usize) -> Next
     ensures { λ r. ⌜ r ≡ answerFirst (drop i (queueOf kinds owed)) ⌝ }
 {
     if owed <= i {
         return Next::Nothing;
     }
-    if 16 <= i {
+    if OWED <= i {
         return Next::Nothing;
     }
     let kind = kind_of(kinds[i]);
@@ -119,13 +125,13 @@ fn answer_at(kinds: [u8; 16], i: usize, owed: usize) -> Next
 }
 
 // The own answers at the head of what is owed from number `from` on.
-fn due(kinds: [u8; 16], from: usize, owed: usize) -> AnswersDue
+fn due(kinds: Kinds, from: usize, owed: usize) -> AnswersDue
     ensures { λ r. ⌜ (r .until ≡ from + answersAtHead (drop from (queueOf kinds owed))) × (r .length ≡ length (headAnswers (drop from (queueOf kinds owed)))) ⌝ }
-    ensures { λ r. ⌜ r .length ≤ 768 ⌝ }
+    ensures { λ r. ⌜ r .length ≤ mostAnswers ⌝ }
 {
     let mut until = from;
     let mut octets = 0;
-    while until < 16 {
+    while until < OWED {
         let next = answer_at(kinds, until, owed);
         let Next::Answer(answer) = next else {
             return AnswersDue {
@@ -143,7 +149,7 @@ fn due(kinds: [u8; 16], from: usize, owed: usize) -> AnswersDue
 }
 
 // Those answers from `at` on, or nothing where they do not all fit; the next place.
-pub fn put_answers(out: &mut [u8], at: usize, kinds: [u8; 16], from: usize, owed: usize) -> usize
+pub fn put_answers(out: &mut [u8], at: usize, kinds: Kinds, from: usize, owed: usize) -> usize
     ensures { λ r. ⌜ r ≡ placeAfter (now (out .entry)) at (headAnswers (drop from (queueOf kinds owed))) ⌝ }
     ensures { λ r. ⌜ now (out .exit) ≡ placed (now (out .entry)) at (headAnswers (drop from (queueOf kinds owed))) ⌝ }
 {
@@ -156,7 +162,7 @@ pub fn put_answers(out: &mut [u8], at: usize, kinds: [u8; 16], from: usize, owed
     }
     let mut place = at;
     let mut i = from;
-    while i < 16 {
+    while i < OWED {
         let next = answer_at(kinds, i, owed);
         let Next::Answer(answer) = next else {
             return place;
@@ -168,13 +174,13 @@ pub fn put_answers(out: &mut [u8], at: usize, kinds: [u8; 16], from: usize, owed
 }
 
 // A kind is put behind the last one owed.
-pub fn push(kinds: [u8; 16], owed: usize, owes: Owes) -> [u8; 16]
+pub fn push(kinds: Kinds, owed: usize, owes: Owes) -> Kinds
     ensures { λ r. ⌜ r ≡ pushed kinds owed owes ⌝ }
 {
     let Owes::One(kind) = owes else {
         return kinds;
     };
-    if 16 <= owed {
+    if OWED <= owed {
         return kinds;
     }
     let mut longer = kinds;
@@ -183,13 +189,13 @@ pub fn push(kinds: [u8; 16], owed: usize, owes: Owes) -> [u8; 16]
 }
 
 // AUTH comes first among the kinds owed from number `from` on.
-fn auth_at(kinds: [u8; 16], from: usize, owed: usize) -> bool
+fn auth_at(kinds: Kinds, from: usize, owed: usize) -> bool
     ensures { λ r. ⌜ r ≡ authAtHead (drop from (queueOf kinds owed)) ⌝ }
 {
     if owed <= from {
         return false;
     }
-    if 16 <= from {
+    if OWED <= from {
         return false;
     }
     let kind = kind_of(kinds[from]);
@@ -216,9 +222,9 @@ pub fn is_still(kinds: &[u8], from: usize, owed: usize) -> bool
 }
 
 // What own answers and the AUTH step will do once the first `from` kinds are removed, where `blocked` answers wait.
-pub fn planned(kinds: [u8; 16], from: usize, owed: usize, blocked: bool) -> Plan
+pub fn planned(kinds: Kinds, from: usize, owed: usize, blocked: bool) -> Plan
     ensures { λ r. ⌜ r ≡ planOf blocked (queueOf kinds owed) from ⌝ }
-    ensures { λ r. ⌜ r .answers ≤ 768 ⌝ }
+    ensures { λ r. ⌜ r .answers ≤ mostAnswers ⌝ }
 {
     if is_still(&kinds, from, owed) {
         return Plan {

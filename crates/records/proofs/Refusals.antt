@@ -7,7 +7,7 @@ use native.Mathlib.Omega.{arith}
 use lib.Dec.{leb}
 use borrow.Author.Tests.{le-leb, lt-leb, leb-true, eqb-true, ne-eqb, not-true, not-false}
 use Rattle.rules.specs.Octets.{choose}
-use Rattle.rules.specs.Lines.{judged}
+use Rattle.rules.specs.Lines.{judged, mostHeld}
 use Rattle.rules.specs.Answers.{mostOwed, soundHeld, soundRecord, refusal}
 use Rattle.rules.specs.declared.Answer.{Answer}
 use Rattle.octets.proofs.Ranges.{and-both}
@@ -53,7 +53,7 @@ unfolding soundDirection soundHeld choose judged
 none-held d e = either (isHolding (d .place))
   where
     either : (b : Bool) → true ≡ soundHeld b (d .held)
-    either true = sym (le-leb (d .held) 511 (omega arith))
+    either true = sym (le-leb (d .held) mostHeld (omega arith))
     either false = rw e
 
 -- and some octets are held only where they may be
@@ -67,21 +67,21 @@ module _ (live : Bool) (owed : ℕ) (k c s : Bool) where
   unfolding soundRecord
   not-live l = rw (not-true live l)
 
-  pub too-many : not live ≡ false → 16 < owed → false ≡ soundRecord live owed k c s
-  unfolding soundRecord mostOwed
-  too-many l o = rw (not-false live l, lt-leb owed 16 o)
+  pub too-many : not live ≡ false → mostOwed < owed → false ≡ soundRecord live owed k c s
+  unfolding soundRecord
+  too-many l o = rw (not-false live l, lt-leb owed mostOwed o)
 
-  pub unlisted : not live ≡ false → owed ≤ 16 → {k′ : Bool} → k′ ≡ k → not k′ ≡ true → false ≡ soundRecord live owed k c s
-  unfolding soundRecord mostOwed
-  unlisted l o p e = rw (not-false live l, le-leb owed 16 o, sym p ∙ not-true _ e)
+  pub unlisted : not live ≡ false → owed ≤ mostOwed → {k′ : Bool} → k′ ≡ k → not k′ ≡ true → false ≡ soundRecord live owed k c s
+  unfolding soundRecord
+  unlisted l o p e = rw (not-false live l, le-leb owed mostOwed o, sym p ∙ not-true _ e)
 
-  pub client-unsound : not live ≡ false → owed ≤ 16 → {k′ c′ : Bool} → k′ ≡ k → not k′ ≡ false → c′ ≡ c → not c′ ≡ true → false ≡ soundRecord live owed k c s
-  unfolding soundRecord mostOwed
-  client-unsound l o p e q f = rw (not-false live l, le-leb owed 16 o, sym p ∙ not-false _ e, sym q ∙ not-true _ f)
+  pub client-unsound : not live ≡ false → owed ≤ mostOwed → {k′ c′ : Bool} → k′ ≡ k → not k′ ≡ false → c′ ≡ c → not c′ ≡ true → false ≡ soundRecord live owed k c s
+  unfolding soundRecord
+  client-unsound l o p e q f = rw (not-false live l, le-leb owed mostOwed o, sym p ∙ not-false _ e, sym q ∙ not-true _ f)
 
-  pub by-server : not live ≡ false → owed ≤ 16 → {k′ c′ s′ : Bool} → k′ ≡ k → not k′ ≡ false → c′ ≡ c → not c′ ≡ false → s′ ≡ s → s′ ≡ soundRecord live owed k c s
-  unfolding soundRecord mostOwed
-  by-server l o p e q f r = rw (not-false live l, le-leb owed 16 o, sym p ∙ not-false _ e, sym q ∙ not-false _ f) r
+  pub by-server : not live ≡ false → owed ≤ mostOwed → {k′ c′ s′ : Bool} → k′ ≡ k → not k′ ≡ false → c′ ≡ c → not c′ ≡ false → s′ ≡ s → s′ ≡ soundRecord live owed k c s
+  unfolding soundRecord
+  by-server l o p e q f r = rw (not-false live l, le-leb owed mostOwed o, sym p ∙ not-false _ e, sym q ∙ not-false _ f) r
 
 -- the three refusals, in order
 module _ (d : ℕ) (s e : Bool) where
@@ -115,29 +115,29 @@ by-answer (some b) a e = cc
 -- ---- a record that is not refused
 
 pub record Countable (s : Session) : Type 0 where
-  pub owed : s .control .owed ≤ 16
-  pub command : s .control .client .held ≤ 511
-  pub reply : s .control .server .held ≤ 511
+  pub owed : s .control .owed ≤ mostOwed
+  pub command : s .control .client .held ≤ mostHeld
+  pub reply : s .control .server .held ≤ mostHeld
 
 not-bad : (d : ℕ) (s e : Bool) → refusal d s e ≡ none → s ≡ true
 not-bad d s e =
     refusal-cases (λ o. o ≡ none → s ≡ true) d s e (λ t q. cc) (λ t u q. cc) (λ t u v q. cc) (λ t u v q. u)
 
-place-holds : (p : Place) (n : ℕ) → soundHeld (isHolding p) n ≡ true → n ≤ 511
+place-holds : (p : Place) (n : ℕ) → soundHeld (isHolding p) n ≡ true → n ≤ mostHeld
 unfolding soundHeld choose judged
-place-holds Place.Holding n h = leb-true n 511 h
+place-holds Place.Holding n h = leb-true n mostHeld h
 place-holds Place.Flowing n h = omega (arith, eqb-true n 0 h)
 place-holds Place.Passing n h = omega (arith, eqb-true n 0 h)
 place-holds Place.Ended n h = omega (arith, eqb-true n 0 h)
 
-sound-parts : (live : Bool) (owed : ℕ) (k c s : Bool) → soundRecord live owed k c s ≡ true → (owed ≤ 16) × (c ≡ true) × (s ≡ true)
-unfolding soundRecord mostOwed
+sound-parts : (live : Bool) (owed : ℕ) (k c s : Bool) → soundRecord live owed k c s ≡ true → (owed ≤ mostOwed) × (c ≡ true) × (s ≡ true)
+unfolding soundRecord
 sound-parts live owed k c s h =
-    let few = leb owed 16 in
+    let few = leb owed mostOwed in
     let a = and-both (live && few && k && c) s h in
     let b = and-both (live && few && k) c (a .0) in
     let l = and-both live few (and-both (live && few) k (b .0) .0) in
-    (leb-true owed 16 (l .1), b .1, a .1)
+    (leb-true owed mostOwed (l .1), b .1, a .1)
 
 pub sound-countable : (s : Session) → sound s ≡ true → Countable s
 unfolding sound soundDirection

@@ -7,7 +7,7 @@ use Prim.Native.Nat.{ℕ, _-_, _≤_}
 use lib.Dec.{leb}
 use lib.ListN.{take}
 use Rattle.rules.specs.Octets.{every}
-use Rattle.rules.specs.Lines.{judged}
+use Rattle.rules.specs.Lines.{judged, mostHeld}
 use Rattle.rules.specs.Answers.{Side, client, server, sideOf, mostOwed, soundHeld, soundRecord, refusal}
 use Rattle.rules.specs.declared.Answer.{Answer}
 use Rattle.queue.specs.Kinds.{isListed}
@@ -54,9 +54,9 @@ holdable c = leb (c .owed) mostOwed && leb (c .client .held) (judged - 1) && leb
 
 -- the same as a fact
 pub record Counted (c : Control) : Type 0 where
-  pub owed : c .owed ≤ 16
-  pub command : c .client .held ≤ 511
-  pub reply : c .server .held ≤ 511
+  pub owed : c .owed ≤ mostOwed
+  pub command : c .client .held ≤ mostHeld
+  pub reply : c .server .held ≤ mostHeld
 
 -- the side that the code's test names
 abbrev pub sideIf : Bool → Side

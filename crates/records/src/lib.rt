@@ -3,7 +3,7 @@ ghost use mathlib.Core.Path.{_≡_};
 ghost use Prim.Native.Nat.{_≤_};
 ghost use lib.ListN.{take};
 ghost use Rattle.rules.specs.Octets.{every};
-ghost use Rattle.rules.specs.Answers.{sideOf, isQueueFull};
+ghost use Rattle.rules.specs.Answers.{sideOf, isQueueFull, mostOwed};
 ghost use Rattle.places.specs.Places.{isPassing};
 ghost use Rattle.queue.specs.Kinds.{isListed};
 ghost use Rattle.records.specs.Controls.{withClient, withServer};
@@ -13,7 +13,13 @@ use places::Place;
 use places::has_ended;
 use places::is_passing;
 use rules::Answer;
+use rules::HELD;
+use rules::Kinds;
+use rules::Line;
+use rules::OWED;
 use rules::Switches;
+
+pub mod layout;
 
 // What the session does next, apart from the octets held and the kinds owed.
 pub struct Control {
@@ -37,9 +43,9 @@ pub struct Session {
     pub mapped: [u8; 4],
     pub supported: bool,
     pub control: Control,
-    pub command: [u8; 511],
-    pub reply: [u8; 511],
-    pub kinds: [u8; 16],
+    pub command: Line,
+    pub reply: Line,
+    pub kinds: Kinds,
     pub up: Counts,
     pub down: Counts,
 }
@@ -51,13 +57,13 @@ pub enum Refusal {
 }
 
 // Every kind owed is listed.
-fn kinds_listed(kinds: [u8; 16], owed: usize) -> bool
-    requires { ⌜ owed ≤ 16 ⌝ }
+fn kinds_listed(kinds: Kinds, owed: usize) -> bool
+    requires { ⌜ owed ≤ mostOwed ⌝ }
     ensures { λ r. ⌜ r ≡ every isListed (take owed kinds) ⌝ }
 {
     let mut i = 0;
     while i < owed {
-        if 8 < kinds[i] {
+        if queue::LAST < kinds[i] {
             return false;
         }
         i += 1;
@@ -74,7 +80,7 @@ fn sound_direction(direction: Direction) -> bool
     }
     let place = direction.place;
     match place {
-        Place::Holding => direction.held <= 511,
+        Place::Holding => direction.held <= HELD,
         Place::Flowing => false,
         Place::Passing => false,
         Place::Ended => false,
@@ -82,13 +88,13 @@ fn sound_direction(direction: Direction) -> bool
 }
 
 // A record of these parts is none that number 4 refuses.
-fn sound(live: bool, control: Control, kinds: [u8; 16]) -> bool
+fn sound(live: bool, control: Control, kinds: Kinds) -> bool
     ensures { λ r. ⌜ r ≡ soundOf live control kinds ⌝ }
 {
     if !live {
         return false;
     }
-    if 16 < control.owed {
+    if OWED < control.owed {
         return false;
     }
     if !kinds_listed(kinds, control.owed) {
@@ -113,7 +119,7 @@ fn direction_of(control: Control, number: u8) -> Direction
 }
 
 // What refuses a call on the direction of a number: 3, 4, 6, in this order. These parts of the record decide.
-pub fn refusal_on(live: bool, control: Control, kinds: [u8; 16], direction: u8) -> Refusal
+pub fn refusal_on(live: bool, control: Control, kinds: Kinds, direction: u8) -> Refusal
     ensures { λ r. ⌜ r ≡ refusalBy (refusalOn live control kinds direction) ⌝ }
 {
     if 2 <= direction {
@@ -194,20 +200,20 @@ pub fn queue_full(from_client: bool, control: Control) -> bool
     if is_passing(direction) {
         return false;
     }
-    16 <= control.owed
+    OWED <= control.owed
 }
 
 // The record's arrays can hold these counts.
 pub fn holdable(counts: Control) -> bool
     ensures { λ r. ⌜ r ≡ areHoldable counts ⌝ }
 {
-    if 16 < counts.owed {
+    if OWED < counts.owed {
         return false;
     }
     let client = counts.client;
-    if 511 < client.held {
+    if HELD < client.held {
         return false;
     }
     let server = counts.server;
-    server.held <= 511
+    server.held <= HELD
 }

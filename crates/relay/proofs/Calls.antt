@@ -8,13 +8,14 @@ use borrow.Author.Tests.{eq-eqb, ne-eqb, le-leb, lt-leb}
 use Rattle.rules.specs.Octets.{choose}
 use Rattle.rules.specs.Answers.{answerNumber}
 use Rattle.rules.specs.declared.Answer.{Answer}
+use Rattle.records.specs.Layout.{imageSize}
 use Rattle.output.specs.Buffer.{placed}
 use Rattle.session.specs.declared.Called.{Called}
 use Rattle.session.specs.declared.Prepared.{Prepared}
 use Rattle.records.specs.declared.Session.{Session}
 use Rattle.session.specs.declared.DirectionOffset.{DirectionOffset}
 use Rattle.session.specs.Calls.{Outcome, prepared, offset}
-use Rattle.image.specs.Image.{imageSize, imageOf, sessionOf}
+use Rattle.image.specs.Image.{imageOf, sessionOf}
 use Rattle.output.proofs.Front.{filled}
 use Rattle.image.specs.declared.arrival.Told.{Told}
 use Rattle.image.specs.Lent.{imageAfter, Tells}

@@ -10,8 +10,9 @@ use lib.ListN.{length, drop}
 use borrow.Author.Tests.{leb-true, leb-false}
 use Rattle.rules.specs.Octets.{choose}
 use Rattle.rules.specs.Lines.{judged}
-use Rattle.rules.specs.Answers.{Side, mostOwed, wrapped, answerNumber}
+use Rattle.rules.specs.Answers.{Side, wrapped, answerNumber}
 use Rattle.rules.specs.declared.Answer.{Answer}
+use Rattle.records.specs.Layout.{imageSize}
 use Rattle.output.specs.Buffer.{placed}
 use Rattle.output.proofs.Placing.{length-placed}
 use Rattle.records.specs.declared.Session.{Session}
@@ -24,7 +25,7 @@ use Rattle.answers.specs.Table.{Call, Result, arrival, ending, Sound, BadFlags}
 use Rattle.answers.proofs.Refusals.{sound-words}
 use Rattle.answers.proofs.Kept.{calls-keep, fresh-kept}
 use Rattle.answers.proofs.Table.{refused-untouched, end-two, end-two-untouched, five, setup-zero}
-use Rattle.image.specs.Image.{imageSize, imageOf, fieldsIn, isImage, sessionOf, Sized, Wrapped}
+use Rattle.image.specs.Image.{imageOf, fieldsIn, isImage, sessionOf, Sized, Wrapped}
 use Rattle.image.proofs.Writing.{image-length}
 use Rattle.image.proofs.Back.{read-back}
 use Rattle.image.proofs.Again.{record-lies}
@@ -33,7 +34,7 @@ use Rattle.relay.specs.Carried.{Holds, Begun, Carried, EndKeeps}
 use Rattle.relay.proofs.Calls.{from-slices, kept, written-back}
 
 sizes : (s : Session) → Shaped s → length (s .client) ≡ 16 → Sized s
-unfolding judged mostOwed
+unfolding judged
 sizes s h e = record { client = e; mapped = h .mapped; kinds = h .kinds; command = h .command; reply = h .reply }
 
 -- a record that is put into memory with room for it is held there

@@ -8,12 +8,13 @@ use lib.ListN.{length, getD}
 use Rattle.rules.specs.Octets.{every}
 use Rattle.rules.specs.Answers.{answerNumber}
 use Rattle.rules.specs.declared.Answer.{Answer}
+use Rattle.records.specs.Layout.{imageSize}
 use Rattle.output.specs.Buffer.{placed}
 use Rattle.records.specs.declared.Session.{Session}
 use Rattle.session.specs.Bounds.{Shaped}
 use Rattle.session.specs.Calls.{Outcome, freshSession}
 use Rattle.answers.specs.Table.{Call, Result, Sound}
-use Rattle.image.specs.Image.{imageSize, imageOf, sessionOf, Wrapped}
+use Rattle.image.specs.Image.{imageOf, sessionOf, Wrapped}
 use Rattle.image.specs.Lent.{endedAt, imageAfter}
 use Rattle.relay.specs.Host.{preparedFrom}
 

@@ -7,12 +7,12 @@ use lib.ListN.{length, drop, set}
 use Rattle.rules.specs.Octets.{choose}
 use Rattle.rules.specs.Answers.{answerNumber}
 use Rattle.rules.specs.declared.Answer.{Answer}
+use Rattle.records.specs.Layout.{imageSize}
 use Rattle.steps.specs.declared.Written.{Written}
 use Rattle.session.specs.declared.Called.{Called}
 use Rattle.session.specs.declared.Prepared.{Prepared}
 use Rattle.session.specs.declared.DirectionOffset.{DirectionOffset}
 use Rattle.session.specs.Calls.{prepared, deadSession}
-use Rattle.image.specs.Image.{imageSize}
 
 -- ---- setup
 

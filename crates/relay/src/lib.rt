@@ -13,6 +13,7 @@ use image::put_image;
 use image::read_image;
 use output::four;
 use output::sixteen;
+use records::layout;
 use rules::Answer;
 use rules::number_of;
 use session::DirectionOffset;
@@ -33,7 +34,7 @@ pub extern "C" fn fashlemor_setup(image: &mut [u8], client: &[u8], mapped: &[u8]
     let answer = p.answer;
     let session = p.session;
     put_image(image, session);
-    if room < image::SIZE {
+    if room < layout::SIZE {
         return number_of(Answer::BadSetup);
     }
     number_of(answer)

@@ -37,7 +37,7 @@ sideOf zero = client
 sideOf (suc d) = server
 
 -- "a queue of replies owed, at most 16"
-unfoldable pub mostOwed : ℕ
+abbrev pub mostOwed : ℕ
 mostOwed = 16
 
 -- number 1: "next octet is the client's, no AUTH yet, 16 replies owed"
@@ -69,12 +69,19 @@ refusal direction sound ended =
 unfoldable pub stop : Bool → Bool → Option Answer
 stop full room = choose full (some QueueFull) (choose room none (some NoRoom))
 
--- "One octet writes at most 512 octets to the server and at most 1,280 to the client": a line, and for the client sixteen answers of 48
+-- the octets of the longest own answer, and of a whole queue of them
+abbrev pub longestAnswer : ℕ
+longestAnswer = 48
+
+abbrev pub mostAnswers : ℕ
+mostAnswers = mostOwed * longestAnswer
+
+-- "One octet writes at most 512 octets to the server and at most 1,280 to the client": a line, and for the client sixteen answers too
 unfoldable pub mostToServer : ℕ
 mostToServer = judged
 
 unfoldable pub mostToClient : ℕ
-mostToClient = judged + mostOwed * 48
+mostToClient = judged + mostAnswers
 
 -- "counts octets taken and written in 32 bits that wrap"
 unfoldable pub wrapped : ℕ → ℕ
@@ -86,5 +93,5 @@ offsetOf written taken = wrapped (wrapped written + (2 ^ 32 - wrapped taken))
 
 -- this page's definitions, for a proof that computes with them
 unfoldable pub answers-opened : Unit {0}
-unfolding answerNumber mostOwed isQueueFull fits soundHeld soundRecord refusal stop mostToServer mostToClient wrapped offsetOf
+unfolding answerNumber isQueueFull fits soundHeld soundRecord refusal stop mostToServer mostToClient wrapped offsetOf
 answers-opened = tt

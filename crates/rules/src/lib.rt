@@ -2,6 +2,17 @@
 ghost use mathlib.Core.Path.{_≡_};
 ghost use Rattle.rules.specs.Answers.{answerNumber};
 
+// So many octets of an unfinished line are held at most: with its LF it is judged whole.
+pub const HELD: usize = 511;
+
+pub type Line = [u8; HELD];
+
+// So many replies are owed at most.
+pub const OWED: usize = 16;
+
+// The kinds owed, as numbers.
+pub type Kinds = [u8; OWED];
+
 // What a call answers. `answerNumber` gives the number of each case.
 pub enum Answer {
     Done,

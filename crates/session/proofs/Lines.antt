@@ -6,6 +6,9 @@ use Prim.Native.Nat.{ℕ, _+_, _≤_}
 use native.Mathlib.Omega.{arith}
 use lib.ListN.{length, take, drop, replicate, length-append, length-drop, length-replicate}
 use lib.Seq.{length-take-le, take-all, take-at, drop-at, drop-drop}
+use Rattle.rules.specs.Lines.{mostHeld}
+use Rattle.rules.specs.Answers.{mostOwed}
+use Rattle.records.specs.Layout.{ipv6Width, ipv4Width, lentMapped, lentKinds, lentCommand, lentReply, lentSize}
 use Rattle.output.specs.Buffer.{placed}
 use Rattle.output.proofs.Placing.{placed-after}
 use Rattle.output.proofs.Front.{filled}
@@ -20,16 +23,16 @@ laid-next n before a at size fits p q =
     q ∙ ((λ i. placed (p i) (place i) a)
     ∙ placed-after (replicate n 0) 0 before a (omega (arith, length-append before a, length-replicate {A = ℕ} n 0)))
 
-module _ (client mapped kinds command reply : List ℕ) (h₁ : length client ≡ 16) (h₂ : length mapped ≡ 4) (h₃ : length kinds ≡ 16)
-    (h₄ : length command ≡ 511) (h₅ : length reply ≡ 511) where
+module _ (client mapped kinds command reply : List ℕ) (h₁ : length client ≡ ipv6Width) (h₂ : length mapped ≡ ipv4Width) (h₃ : length kinds ≡ mostOwed)
+    (h₄ : length command ≡ mostHeld) (h₅ : length reply ≡ mostHeld) where
   abbrev lines : List ℕ
   lines = command ++ reply
 
   abbrev arrays : List ℕ
   arrays = client ++ (mapped ++ (kinds ++ lines))
 
-  pub all-laid : {a b c d e : List ℕ} → a ≡ placed (replicate 1058 0) 0 client → b ≡ placed a 16 mapped → c ≡ placed b 20 kinds
-      → d ≡ placed c 36 command → e ≡ placed d 547 reply → e ≡ arrays
+  pub all-laid : {a b c d e : List ℕ} → a ≡ placed (replicate lentSize 0) 0 client → b ≡ placed a lentMapped mapped → c ≡ placed b lentKinds kinds
+      → d ≡ placed c lentCommand command → e ≡ placed d lentReply reply → e ≡ arrays
   all-laid p q r s t =
       let two = client ++ mapped in
       let three = two ++ kinds in
@@ -38,49 +41,49 @@ module _ (client mapped kinds command reply : List ℕ) (h₁ : length client �
       let l₃ = length-append two kinds in
       let l₄ = length-append three command in
       let l₅ = length-append four reply in
-      let laid = laid-next 1058 four reply 547 (omega arith) (omega arith)
-      (laid-next 1058 three command 36 (omega arith) (omega arith)
-      (laid-next 1058 two kinds 20 (omega arith) (omega arith) (laid-next 1058 client mapped 16 h₁ (omega arith) p q) r) s) t in
-      laid ∙ (filled 1058 (four ++ reply) (omega arith)
+      let laid = laid-next lentSize four reply lentReply (omega arith) (omega arith)
+      (laid-next lentSize three command lentCommand (omega arith) (omega arith)
+      (laid-next lentSize two kinds lentKinds (omega arith) (omega arith) (laid-next lentSize client mapped lentMapped h₁ (omega arith) p q) r) s) t in
+      laid ∙ (filled lentSize (four ++ reply) (omega arith)
       ∙ (append-assoc three command reply ∙ (append-assoc two kinds lines ∙ append-assoc client mapped (kinds ++ lines))))
 
   module _ (lent : List ℕ) (e : lent ≡ arrays) where
-    pub laid-size : length lent ≡ 1058
+    pub laid-size : length lent ≡ lentSize
     laid-size =
         ap length e
         ∙ omega (arith, h₁, h₂, h₃, h₄, h₅, length-append client (mapped ++ (kinds ++ lines)), length-append mapped (kinds ++ lines), length-append kinds lines, length-append command reply)
 
-    from-mapped : drop 16 lent ≡ mapped ++ (kinds ++ lines)
-    from-mapped = ap (drop 16) e ∙ drop-at client (mapped ++ (kinds ++ lines)) 16 h₁
+    from-mapped : drop lentMapped lent ≡ mapped ++ (kinds ++ lines)
+    from-mapped = ap (drop lentMapped) e ∙ drop-at client (mapped ++ (kinds ++ lines)) lentMapped h₁
 
-    from-kinds : drop 20 lent ≡ kinds ++ lines
-    from-kinds = sym (drop-drop 4 16 lent) ∙ (ap (drop 4) from-mapped ∙ drop-at mapped (kinds ++ lines) 4 h₂)
+    from-kinds : drop lentKinds lent ≡ kinds ++ lines
+    from-kinds = sym (drop-drop ipv4Width lentMapped lent) ∙ (ap (drop ipv4Width) from-mapped ∙ drop-at mapped (kinds ++ lines) ipv4Width h₂)
 
-    from-lines : drop 36 lent ≡ lines
-    from-lines = sym (drop-drop 16 20 lent) ∙ (ap (drop 16) from-kinds ∙ drop-at kinds lines 16 h₃)
+    from-lines : drop lentCommand lent ≡ lines
+    from-lines = sym (drop-drop mostOwed lentKinds lent) ∙ (ap (drop mostOwed) from-kinds ∙ drop-at kinds lines mostOwed h₃)
 
     -- what the arrays laid so fix, and their state
     pub laid-fixed : (supported : Bool) → fixedLent supported lent ≡ record { client = client; mapped = mapped; supported = supported }
     laid-fixed supported =
-        let first = ap (take 16) e ∙ take-at client (mapped ++ (kinds ++ lines)) 16 h₁ in
-        let second = ap (take 4) from-mapped ∙ take-at mapped (kinds ++ lines) 4 h₂ in
+        let first = ap (take ipv6Width) e ∙ take-at client (mapped ++ (kinds ++ lines)) ipv6Width h₁ in
+        let second = ap (take ipv4Width) from-mapped ∙ take-at mapped (kinds ++ lines) ipv4Width h₂ in
         λ i. record { client = first i; mapped = second i; supported = supported }
 
     pub laid-state : (c : Control) → stateLent c lent ≡ stateFrom c command reply kinds
     laid-state c =
-        let first = ap (take 511) from-lines ∙ take-at command reply 511 h₄ in
-        let second = ap (drop 511) from-lines ∙ drop-at command reply 511 h₄ in
-        let third = ap (take 16) from-kinds ∙ take-at kinds lines 16 h₃ in
+        let first = ap (take mostHeld) from-lines ∙ take-at command reply mostHeld h₄ in
+        let second = ap (drop mostHeld) from-lines ∙ drop-at command reply mostHeld h₄ in
+        let third = ap (take mostOwed) from-kinds ∙ take-at kinds lines mostOwed h₃ in
         λ i. stateFrom c (first i) (second i) (third i)
 
 -- the state of the arrays that `take` left, each an array of its own again
-pub arrays-back : (c : Control) (lent : List ℕ) → length lent ≡ 1058 → {k a b : List ℕ} → k ≡ placed (replicate 16 0) 0 (take 16 (drop 20 lent))
-    → a ≡ placed (replicate 511 0) 0 (take 511 (drop 36 lent)) → b ≡ placed (replicate 511 0) 0 (take 511 (drop 547 lent))
+pub arrays-back : (c : Control) (lent : List ℕ) → length lent ≡ lentSize → {k a b : List ℕ} → k ≡ placed (replicate mostOwed 0) 0 (take mostOwed (drop lentKinds lent))
+    → a ≡ placed (replicate mostHeld 0) 0 (take mostHeld (drop lentCommand lent)) → b ≡ placed (replicate mostHeld 0) 0 (take mostHeld (drop lentReply lent))
     → stateFrom c a b k ≡ stateLent c lent
 arrays-back c lent size o p q =
-    let kinds = o ∙ filled 16 (take 16 (drop 20 lent)) (length-take-le 16 (drop 20 lent) (omega (arith, length-drop 20 lent))) in
-    let command = p ∙ filled 511 (take 511 (drop 36 lent)) (length-take-le 511 (drop 36 lent) (omega (arith, length-drop 36 lent))) in
-    let rest = length-drop 547 lent in
-    let whole = take-all 511 (drop 547 lent) (omega arith) in
-    let reply = q ∙ (filled 511 (take 511 (drop 547 lent)) (length-take-le 511 (drop 547 lent) (omega arith)) ∙ (whole ∙ sym (drop-drop 511 36 lent))) in
+    let kinds = o ∙ filled mostOwed (take mostOwed (drop lentKinds lent)) (length-take-le mostOwed (drop lentKinds lent) (omega (arith, length-drop lentKinds lent))) in
+    let command = p ∙ filled mostHeld (take mostHeld (drop lentCommand lent)) (length-take-le mostHeld (drop lentCommand lent) (omega (arith, length-drop lentCommand lent))) in
+    let rest = length-drop lentReply lent in
+    let whole = take-all mostHeld (drop lentReply lent) (omega arith) in
+    let reply = q ∙ (filled mostHeld (take mostHeld (drop lentReply lent)) (length-take-le mostHeld (drop lentReply lent) (omega arith)) ∙ (whole ∙ sym (drop-drop mostHeld lentCommand lent))) in
     λ i. stateFrom c (command i) (reply i) (kinds i)

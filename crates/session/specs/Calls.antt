@@ -10,6 +10,7 @@ use Rattle.rules.specs.Setup.{eprtSupported, setupSwitches, badFlags, setupAnsw
 use Rattle.rules.specs.Lines.{judged}
 use Rattle.rules.specs.declared.Answer.{Answer}
 use Rattle.rules.specs.declared.Switches.{Switches}
+use Rattle.records.specs.Layout.{ipv6Width, ipv4Width}
 use Rattle.places.specs.declared.Place.{Place}
 use Rattle.places.specs.declared.Direction.{Direction}
 use Rattle.records.specs.declared.Control.{Control}
@@ -68,7 +69,7 @@ freshSession address mapped flags =
 -- "With 5 the record is not live and otherwise all zero"
 unfoldable pub deadSession : Session
 deadSession =
-    startSession false (replicate 16 0) (replicate 4 0) false (startControl (record { epsv = false; eprt = false }) 0)
+    startSession false (replicate ipv6Width 0) (replicate ipv4Width 0) false (startControl (record { epsv = false; eprt = false }) 0)
 
 -- "Setup gives ..": the answer, and the record that it leaves
 unfoldable pub prepared : List ℕ → List ℕ → ℕ → Prepared

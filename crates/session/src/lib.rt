@@ -4,7 +4,9 @@ ghost use mathlib.Core.List.{_++_};
 ghost use lib.Dec.{leb};
 ghost use lib.ListN.{length, drop, replicate};
 ghost use Prim.Native.Nat.{_≤_};
-ghost use Rattle.rules.specs.Answers.{wrapped, client as clientSide, server as serverSide};
+ghost use Rattle.rules.specs.Answers.{wrapped, client as clientSide, server as serverSide, mostOwed};
+ghost use Rattle.rules.specs.Lines.{mostHeld};
+ghost use Rattle.records.specs.Layout.{ipv6Width, ipv4Width};
 ghost use Rattle.session.specs.Calls.{prepared, endedDirection, startSession, startControl, deadSession, stateOf, arrived, endStep, endOutcome, ended, refused as refusedOutcome, counted as countedBy, takenFor, sessionAfter, offset as offsetIn};
 ghost use Rattle.output.specs.Buffer.{placed};
 ghost use Rattle.records.specs.Sound.{sideIf};
@@ -18,15 +20,20 @@ use records::Control;
 use records::Counts;
 use records::Refusal;
 use records::Session;
+use records::layout::LENT_COMMAND;
+use records::layout::LENT_KINDS;
+use records::layout::LENT_MAPPED;
+use records::layout::LENT_REPLY;
+use records::layout::LENT_SIZE;
 use records::refusal_of;
 use records::with_client;
 use records::with_server;
 use rules::Answer;
+use rules::HELD;
+use rules::Kinds;
+use rules::Line;
+use rules::OWED;
 use rules::Switches;
-use steps::COMMAND;
-use steps::KINDS;
-use steps::MAPPED;
-use steps::REPLY;
 use steps::Written;
 
 // What setup returns.
@@ -106,9 +113,9 @@ fn start(
         mapped,
         supported,
         control,
-        command: [0u8; 511],
-        reply: [0u8; 511],
-        kinds: [0u8; 16],
+        command: [0u8; HELD],
+        reply: [0u8; HELD],
+        kinds: [0u8; OWED],
         up: none,
         down: none,
     }
@@ -160,9 +167,9 @@ pub fn arrive(
         to_server,
         to_client,
     );
-    let left = sixteen(&lent[KINDS..COMMAND]);
-    let command = held_line(&lent[COMMAND..REPLY]);
-    let reply = held_line(&lent[REPLY..]);
+    let left = sixteen(&lent[LENT_KINDS..LENT_COMMAND]);
+    let command = held_line(&lent[LENT_COMMAND..LENT_REPLY]);
+    let reply = held_line(&lent[LENT_REPLY..]);
     let then = t.control;
     let written = t.written;
     let answer = t.answer;
@@ -187,28 +194,28 @@ pub fn arrive(
 fn laid(
     client: [u8; 16],
     mapped: [u8; 4],
-    kinds: [u8; 16],
-    command: [u8; 511],
-    reply: [u8; 511],
-) -> [u8; 1058]
+    kinds: Kinds,
+    command: Line,
+    reply: Line,
+) -> [u8; LENT_SIZE]
     ensures arrays { λ r. ⌜ r ≡ client ++ (mapped ++ (kinds ++ (command ++ reply))) ⌝ }
     ensures lengths { λ _.
-        ⌜ (length client ≡ 16) × (length mapped ≡ 4) × (length kinds ≡ 16) × (length command ≡ 511) × (length reply ≡ 511) ⌝ }
+        ⌜ (length client ≡ ipv6Width) × (length mapped ≡ ipv4Width) × (length kinds ≡ mostOwed) × (length command ≡ mostHeld) × (length reply ≡ mostHeld) ⌝ }
 {
-    let mut lent = [0u8; 1058];
+    let mut lent = [0u8; LENT_SIZE];
     put(&mut lent, 0, &client);
-    put(&mut lent, MAPPED, &mapped);
-    put(&mut lent, KINDS, &kinds);
-    put(&mut lent, COMMAND, &command);
-    put(&mut lent, REPLY, &reply);
+    put(&mut lent, LENT_MAPPED, &mapped);
+    put(&mut lent, LENT_KINDS, &kinds);
+    put(&mut lent, LENT_COMMAND, &command);
+    put(&mut lent, LENT_REPLY, &reply);
     lent
 }
 
 // A line's octets as an array; zeros where there are more than an array has, and behind fewer.
-pub fn held_line(octets: &[u8]) -> [u8; 511]
-    ensures { λ r. ⌜ r ≡ placed (replicate 511 0) 0 (now (octets .entry)) ⌝ }
+pub fn held_line(octets: &[u8]) -> Line
+    ensures { λ r. ⌜ r ≡ placed (replicate mostHeld 0) 0 (now (octets .entry)) ⌝ }
 {
-    let mut line = [0u8; 511];
+    let mut line = [0u8; HELD];
     put(&mut line, 0, octets);
     line
 }
@@ -236,9 +243,9 @@ fn after(
     taken: usize,
     written: Written,
     control: Control,
-    command: [u8; 511],
-    reply: [u8; 511],
-    kinds: [u8; 16],
+    command: Line,
+    reply: Line,
+    kinds: Kinds,
 ) -> Session
     ensures { λ r. ⌜ r ≡ sessionAfter session (sideIf «from_client») taken (written .server) (written .client) (stateFrom control command reply kinds) ⌝ }
 {
@@ -321,7 +328,7 @@ pub fn end(session: Session, direction: u8, to_server: &mut [u8], to_client: &mu
 
 // The client's direction ends: what is held of its line goes to the server.
 fn end_client(session: Session, to_server: &mut [u8]) -> Called
-    requires { ⌜ session .control .client .held ≤ 511 ⌝ }
+    requires { ⌜ session .control .client .held ≤ mostHeld ⌝ }
     ensures { λ r. ⌜ r ≡ endOutcome session clientSide (endStep clientSide (stateOf session)) (leb (session .control .client .held) (length (now («to_server» .entry)))) .called ⌝ }
     ensures { λ r. ⌜ now («to_server» .exit) ≡ endOutcome session clientSide (endStep clientSide (stateOf session)) (leb (session .control .client .held) (length (now («to_server» .entry)))) .toServer ++ drop (r .written .server) (now («to_server» .entry)) ⌝ }
 {
@@ -349,7 +356,7 @@ fn end_client(session: Session, to_server: &mut [u8]) -> Called
 
 // The server's direction ends: what is held of its line goes to the client.
 fn end_server(session: Session, to_client: &mut [u8]) -> Called
-    requires { ⌜ session .control .server .held ≤ 511 ⌝ }
+    requires { ⌜ session .control .server .held ≤ mostHeld ⌝ }
     ensures { λ r. ⌜ r ≡ endOutcome session serverSide (endStep serverSide (stateOf session)) (leb (session .control .server .held) (length (now («to_client» .entry)))) .called ⌝ }
     ensures { λ r. ⌜ now («to_client» .exit) ≡ endOutcome session serverSide (endStep serverSide (stateOf session)) (leb (session .control .server .held) (length (now («to_client» .entry)))) .toClient ++ drop (r .written .client) (now («to_client» .entry)) ⌝ }
 {

@@ -7,6 +7,9 @@ use native.Mathlib.Omega.{arith}
 use lib.ListN.{length, take, drop, set, length-drop, drop-of-length-le}
 use lib.Seq.{length-take-le, take-take, take-all, take-add, take-at, drop-at, drop-drop}
 use borrow.Rule.Slice.PartMut.{putMid, midOf, postOf, same-len-mid, set-mid-at}
+use Rattle.rules.specs.Lines.{mostHeld}
+use Rattle.rules.specs.Answers.{mostOwed}
+use Rattle.records.specs.Layout.{ipv6Width, ipv4Width, lentMapped, lentKinds, lentCommand, lentReply, lentSize, linesSize}
 use Rattle.records.specs.declared.Control.{Control}
 use Rattle.steps.specs.Takes.{commandIn, replyIn, stateFrom, addressesLent, fixedLent, kindsLent, linesLent, stateLent}
 
@@ -52,79 +55,79 @@ module _ (a n : ℕ) (l p : List ℕ) (within : a + n ≤ length l) (size : leng
 
 -- ---- the parts of what is lent
 
-module _ (lent : List ℕ) (all : length lent ≡ 1058) where
-  pub kinds-size : length (kindsLent lent) ≡ 16
-  kinds-size = length-take-le 16 (drop 20 lent) (omega (arith, all, length-drop 20 lent))
+module _ (lent : List ℕ) (all : length lent ≡ lentSize) where
+  pub kinds-size : length (kindsLent lent) ≡ mostOwed
+  kinds-size = length-take-le mostOwed (drop lentKinds lent) (omega (arith, all, length-drop lentKinds lent))
 
-  pub lines-size : length (linesLent lent) ≡ 1022
-  lines-size = length-drop 36 lent ∙ omega (arith, all)
+  pub lines-size : length (linesLent lent) ≡ linesSize
+  lines-size = length-drop lentCommand lent ∙ omega (arith, all)
 
   -- what a setup fixed is as it was where the addresses are
-  pub fixed-same : (before : List ℕ) → length before ≡ 1058 → addressesLent lent ≡ addressesLent before → (supported : Bool)
+  pub fixed-same : (before : List ℕ) → length before ≡ lentSize → addressesLent lent ≡ addressesLent before → (supported : Bool)
       → fixedLent supported lent ≡ fixedLent supported before
   fixed-same before size e supported =
-      let client = sym (take-take 16 20 lent (omega arith)) ∙ (ap (take 16) e ∙ take-take 16 20 before (omega arith)) in
-      let mapped = from-front 16 4 lent (omega arith) ∙ (ap (drop 16) e ∙ sym (from-front 16 4 before (omega arith))) in
+      let client = sym (take-take ipv6Width lentKinds lent (omega arith)) ∙ (ap (take ipv6Width) e ∙ take-take ipv6Width lentKinds before (omega arith)) in
+      let mapped = from-front lentMapped ipv4Width lent (omega arith) ∙ (ap (drop lentMapped) e ∙ sym (from-front lentMapped ipv4Width before (omega arith))) in
       λ i. record { client = client i; mapped = mapped i; supported = supported }
 
   -- the kinds
-  module _ (p : List ℕ) (size : length p ≡ 16) where
-    pub kinds-addresses : addressesLent (putMid 20 16 lent p) ≡ addressesLent lent
-    kinds-addresses = put-front 20 16 lent p (omega (arith, all)) size 20 (omega arith)
+  module _ (p : List ℕ) (size : length p ≡ mostOwed) where
+    pub kinds-addresses : addressesLent (putMid lentKinds mostOwed lent p) ≡ addressesLent lent
+    kinds-addresses = put-front lentKinds mostOwed lent p (omega (arith, all)) size lentKinds (omega arith)
 
-    pub kinds-back : (c : Control) → stateLent c (putMid 20 16 lent p) ≡ stateFrom c (commandIn (linesLent lent)) (replyIn (linesLent lent)) p
+    pub kinds-back : (c : Control) → stateLent c (putMid lentKinds mostOwed lent p) ≡ stateFrom c (commandIn (linesLent lent)) (replyIn (linesLent lent)) p
     kinds-back c =
-        let kinds = put-part 20 16 lent p (omega (arith, all)) size in
-        let lines = put-behind 20 16 lent p (omega (arith, all)) size 36 (omega arith) in
+        let kinds = put-part lentKinds mostOwed lent p (omega (arith, all)) size in
+        let lines = put-behind lentKinds mostOwed lent p (omega (arith, all)) size lentCommand (omega arith) in
         λ i. stateFrom c (commandIn (lines i)) (replyIn (lines i)) (kinds i)
 
   -- the client's line
-  module _ (p : List ℕ) (size : length p ≡ 511) where
-    pub command-addresses : addressesLent (putMid 36 511 lent p) ≡ addressesLent lent
-    command-addresses = put-front 36 511 lent p (omega (arith, all)) size 20 (omega arith)
+  module _ (p : List ℕ) (size : length p ≡ mostHeld) where
+    pub command-addresses : addressesLent (putMid lentCommand mostHeld lent p) ≡ addressesLent lent
+    command-addresses = put-front lentCommand mostHeld lent p (omega (arith, all)) size lentKinds (omega arith)
 
-    pub command-kinds : kindsLent (putMid 36 511 lent p) ≡ kindsLent lent
-    command-kinds = put-before 36 511 lent p (omega (arith, all)) size 20 16 (omega arith)
+    pub command-kinds : kindsLent (putMid lentCommand mostHeld lent p) ≡ kindsLent lent
+    command-kinds = put-before lentCommand mostHeld lent p (omega (arith, all)) size lentKinds mostOwed (omega arith)
 
-    pub command-back : (c : Control) → stateLent c (putMid 36 511 lent p) ≡ stateFrom c p (replyIn (linesLent lent)) (kindsLent lent)
+    pub command-back : (c : Control) → stateLent c (putMid lentCommand mostHeld lent p) ≡ stateFrom c p (replyIn (linesLent lent)) (kindsLent lent)
     command-back c =
-        let command = put-part 36 511 lent p (omega (arith, all)) size in
-        let behind = put-behind 36 511 lent p (omega (arith, all)) size 547 (omega arith) in
-        let reply = drop-drop 511 36 (putMid 36 511 lent p) ∙ (behind ∙ sym (drop-drop 511 36 lent)) in
+        let command = put-part lentCommand mostHeld lent p (omega (arith, all)) size in
+        let behind = put-behind lentCommand mostHeld lent p (omega (arith, all)) size lentReply (omega arith) in
+        let reply = drop-drop mostHeld lentCommand (putMid lentCommand mostHeld lent p) ∙ (behind ∙ sym (drop-drop mostHeld lentCommand lent)) in
         λ i. stateFrom c (command i) (reply i) (command-kinds i)
 
   -- the server's line
-  module _ (p : List ℕ) (size : length p ≡ 511) where
-    pub reply-addresses : addressesLent (putMid 547 511 lent p) ≡ addressesLent lent
-    reply-addresses = put-front 547 511 lent p (omega (arith, all)) size 20 (omega arith)
+  module _ (p : List ℕ) (size : length p ≡ mostHeld) where
+    pub reply-addresses : addressesLent (putMid lentReply mostHeld lent p) ≡ addressesLent lent
+    reply-addresses = put-front lentReply mostHeld lent p (omega (arith, all)) size lentKinds (omega arith)
 
-    pub reply-kinds : kindsLent (putMid 547 511 lent p) ≡ kindsLent lent
-    reply-kinds = put-before 547 511 lent p (omega (arith, all)) size 20 16 (omega arith)
+    pub reply-kinds : kindsLent (putMid lentReply mostHeld lent p) ≡ kindsLent lent
+    reply-kinds = put-before lentReply mostHeld lent p (omega (arith, all)) size lentKinds mostOwed (omega arith)
 
-    pub reply-back : (c : Control) → stateLent c (putMid 547 511 lent p) ≡ stateFrom c (commandIn (linesLent lent)) p (kindsLent lent)
+    pub reply-back : (c : Control) → stateLent c (putMid lentReply mostHeld lent p) ≡ stateFrom c (commandIn (linesLent lent)) p (kindsLent lent)
     reply-back c =
-        let command = put-before 547 511 lent p (omega (arith, all)) size 36 511 (omega arith) in
-        let none = drop-of-length-le (drop 547 lent) {i = 511} (omega (arith, all, length-drop 547 lent)) in
-        let from = put-from 547 511 lent p (omega (arith, all)) size in
-        let reply = drop-drop 511 36 (putMid 547 511 lent p) ∙ (from ∙ (ap (λ (l : List ℕ). p ++ l) none ∙ append-nil p)) in
+        let command = put-before lentReply mostHeld lent p (omega (arith, all)) size lentCommand mostHeld (omega arith) in
+        let none = drop-of-length-le (drop lentReply lent) {i = mostHeld} (omega (arith, all, length-drop lentReply lent)) in
+        let from = put-from lentReply mostHeld lent p (omega (arith, all)) size in
+        let reply = drop-drop mostHeld lentCommand (putMid lentReply mostHeld lent p) ∙ (from ∙ (ap (λ (l : List ℕ). p ++ l) none ∙ append-nil p)) in
         λ i. stateFrom c (command i) (reply i) (reply-kinds i)
 
   -- both lines, lent as the octets from 36 to the slice's length
-  pub lines-lent : midOf 36 (length lent - 36) lent ≡ linesLent lent
-  lines-lent = take-all (length lent - 36) (drop 36 lent) (omega (arith, length-drop 36 lent))
+  pub lines-lent : midOf lentCommand (length lent - lentCommand) lent ≡ linesLent lent
+  lines-lent = take-all (length lent - lentCommand) (drop lentCommand lent) (omega (arith, length-drop lentCommand lent))
 
-  module _ (p : List ℕ) (size : length p ≡ length lent - 36) where
-    pub lines-addresses : addressesLent (putMid 36 (length lent - 36) lent p) ≡ addressesLent lent
-    lines-addresses = put-front 36 (length lent - 36) lent p (omega (arith, all)) size 20 (omega arith)
+  module _ (p : List ℕ) (size : length p ≡ length lent - lentCommand) where
+    pub lines-addresses : addressesLent (putMid lentCommand (length lent - lentCommand) lent p) ≡ addressesLent lent
+    lines-addresses = put-front lentCommand (length lent - lentCommand) lent p (omega (arith, all)) size lentKinds (omega arith)
 
-    pub lines-kinds : kindsLent (putMid 36 (length lent - 36) lent p) ≡ kindsLent lent
-    lines-kinds = put-before 36 (length lent - 36) lent p (omega (arith, all)) size 20 16 (omega arith)
+    pub lines-kinds : kindsLent (putMid lentCommand (length lent - lentCommand) lent p) ≡ kindsLent lent
+    lines-kinds = put-before lentCommand (length lent - lentCommand) lent p (omega (arith, all)) size lentKinds mostOwed (omega arith)
 
-    pub lines-put : linesLent (putMid 36 (length lent - 36) lent p) ≡ p
+    pub lines-put : linesLent (putMid lentCommand (length lent - lentCommand) lent p) ≡ p
     lines-put =
-        let none = drop-of-length-le (drop 36 lent) {i = length lent - 36} (omega (arith, length-drop 36 lent)) in
-        put-from 36 (length lent - 36) lent p (omega (arith, all)) size ∙ (ap (λ (l : List ℕ). p ++ l) none ∙ append-nil p)
+        let none = drop-of-length-le (drop lentCommand lent) {i = length lent - lentCommand} (omega (arith, length-drop lentCommand lent)) in
+        put-from lentCommand (length lent - lentCommand) lent p (omega (arith, all)) size ∙ (ap (λ (l : List ℕ). p ++ l) none ∙ append-nil p)
 
   -- a kind stored behind those owed
-  pub kind-stored : (n x : ℕ) → n < 16 → set lent (20 + n) x ≡ putMid 20 16 lent (set (kindsLent lent) n x)
-  kind-stored n x h = sym (set-mid-at 20 16 n lent x (omega (arith, kinds-size)))
+  pub kind-stored : (n x : ℕ) → n < mostOwed → set lent (lentKinds + n) x ≡ putMid lentKinds mostOwed lent (set (kindsLent lent) n x)
+  kind-stored n x h = sym (set-mid-at lentKinds mostOwed n lent x (omega (arith, kinds-size)))

@@ -10,6 +10,7 @@ use borrow.Author.Tests.{le-leb, lt-leb, leb-true, eq-eqb, ne-eqb, eqb-true}
 use Rattle.rules.specs.Octets.{choose}
 use Rattle.rules.specs.Answers.{Side, isQueueFull, stop}
 use Rattle.rules.specs.declared.Answer.{Answer}
+use Rattle.records.specs.Layout.{lentSize}
 use Rattle.octets.proofs.Ranges.{and-both}
 use Rattle.output.proofs.Placing.{nothing-placed}
 use Rattle.places.specs.Places.{isPassing}
@@ -30,28 +31,28 @@ module _ (c : Control) (lent m n : ℕ) (w : Written) where
   unfolding isWithin
   not-held h = rw h
 
-  pub not-lent : holdable c ≡ true → (lent ≡ 1058 → ⊥) → false ≡ isWithin c lent m n w
+  pub not-lent : holdable c ≡ true → (lent ≡ lentSize → ⊥) → false ≡ isWithin c lent m n w
   unfolding isWithin
-  not-lent h k = rw (h, ne-eqb lent 1058 k)
+  not-lent h k = rw (h, ne-eqb lent lentSize k)
 
-  pub not-server : holdable c ≡ true → lent ≡ 1058 → m < w .server → false ≡ isWithin c lent m n w
+  pub not-server : holdable c ≡ true → lent ≡ lentSize → m < w .server → false ≡ isWithin c lent m n w
   unfolding isWithin
-  not-server h k less = rw (h, eq-eqb lent 1058 k, lt-leb (w .server) m less)
+  not-server h k less = rw (h, eq-eqb lent lentSize k, lt-leb (w .server) m less)
 
-  pub by-client : holdable c ≡ true → lent ≡ 1058 → w .server ≤ m → leb (w .client) n ≡ isWithin c lent m n w
+  pub by-client : holdable c ≡ true → lent ≡ lentSize → w .server ≤ m → leb (w .client) n ≡ isWithin c lent m n w
   unfolding isWithin
-  by-client h k room = rw (h, eq-eqb lent 1058 k, le-leb (w .server) m room)
+  by-client h k room = rw (h, eq-eqb lent lentSize k, le-leb (w .server) m room)
 
 -- what they say where they can be
 pub within-facts : (c : Control) (lent : ℕ) (toServer toClient : List ℕ) (w : Written)
-    → isWithin c lent (length toServer) (length toClient) w ≡ true → (lent ≡ 1058) × Bounded c w toServer toClient
+    → isWithin c lent (length toServer) (length toClient) w ≡ true → (lent ≡ lentSize) × Bounded c w toServer toClient
 unfolding isWithin
 within-facts c lent toServer toClient w h =
-    let a = and-both (holdable c && eqb lent 1058 && leb (w .server) (length toServer)) (leb (w .client) (length toClient)) h in
-    let b = and-both (holdable c && eqb lent 1058) (leb (w .server) (length toServer)) (a .0) in
-    let d = and-both (holdable c) (eqb lent 1058) (b .0) in
+    let a = and-both (holdable c && eqb lent lentSize && leb (w .server) (length toServer)) (leb (w .client) (length toClient)) h in
+    let b = and-both (holdable c && eqb lent lentSize) (leb (w .server) (length toServer)) (a .0) in
+    let d = and-both (holdable c) (eqb lent lentSize) (b .0) in
     let counts = holdable-counts c (d .0) in (
-      eqb-true lent 1058 (d .1),
+      eqb-true lent lentSize (d .1),
       record {
         owed = counts .owed;
         command = counts .command;
@@ -62,7 +63,7 @@ within-facts c lent toServer toClient w h =
     )
 
 -- and they can be where they are bounded
-pub within-bounded : (c : Control) (lent : ℕ) (toServer toClient : List ℕ) (w : Written) → lent ≡ 1058 → Bounded c w toServer toClient
+pub within-bounded : (c : Control) (lent : ℕ) (toServer toClient : List ℕ) (w : Written) → lent ≡ lentSize → Bounded c w toServer toClient
     → isWithin c lent (length toServer) (length toClient) w ≡ true
 within-bounded c lent toServer toClient w all bounded =
     let counts = counts-holdable c (bounded .owed) (bounded .command) (bounded .reply) in

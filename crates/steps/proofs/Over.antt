@@ -6,7 +6,8 @@ use Prim.Native.Nat.{ℕ, _-_}
 use native.Mathlib.Omega.{arith}
 use lib.ListN.{length, length-drop}
 use borrow.Rule.Slice.PartMut.{putMid, midOf}
-use Rattle.rules.specs.Answers.{Side}
+use Rattle.rules.specs.Answers.{Side, mostOwed}
+use Rattle.records.specs.Layout.{lentKinds, lentCommand, lentSize}
 use Rattle.records.specs.declared.Control.{Control}
 use Rattle.steps.specs.declared.Fixed.{Fixed}
 use Rattle.steps.specs.declared.Written.{Written}
@@ -15,16 +16,16 @@ use Rattle.steps.specs.Takes.{commandIn, replyIn, stateIn, stateFrom, co
 use Rattle.steps.specs.Core.{Stepped}
 use Rattle.steps.proofs.Lent.{put-size, lines-lent, lines-put, lines-kinds, lines-addresses, kinds-back, kinds-addresses}
 
-module _ (lent lines : List ℕ) (all : length lent ≡ 1058) (kept : length lines ≡ length (midOf 36 (length lent - 36) lent)) where
-  size : length lines ≡ length lent - 36
-  size = kept ∙ (ap length (lines-lent lent all) ∙ length-drop 36 lent)
+module _ (lent lines : List ℕ) (all : length lent ≡ lentSize) (kept : length lines ≡ length (midOf lentCommand (length lent - lentCommand) lent)) where
+  size : length lines ≡ length lent - lentCommand
+  size = kept ∙ (ap length (lines-lent lent all) ∙ length-drop lentCommand lent)
 
   -- the lent octets when the lines are back
   abbrev pub then : List ℕ
-  then = putMid 36 (length lent - 36) lent lines
+  then = putMid lentCommand (length lent - lentCommand) lent lines
 
-  pub then-size : length then ≡ 1058
-  then-size = put-size 36 (length lent - 36) lent lines (omega (arith, all)) size ∙ all
+  pub then-size : length then ≡ lentSize
+  then-size = put-size lentCommand (length lent - lentCommand) lent lines (omega (arith, all)) size ∙ all
 
   pub then-state : (c : Control) → stateLent c then ≡ stateIn c lines (kindsLent lent)
   then-state c =
@@ -34,21 +35,21 @@ module _ (lent lines : List ℕ) (all : length lent ≡ 1058) (kept : length lin
   then-addresses = lines-addresses lent all lines size
 
   -- an octet of any kind, behind which the kinds are put back
-  module _ (kinds : List ℕ) (sixteen : length kinds ≡ 16) where
-    pub put-state : (c : Control) → stateLent c (putMid 20 16 then kinds) ≡ stateIn c lines kinds
+  module _ (kinds : List ℕ) (sixteen : length kinds ≡ mostOwed) where
+    pub put-state : (c : Control) → stateLent c (putMid lentKinds mostOwed then kinds) ≡ stateIn c lines kinds
     put-state c =
         kinds-back then then-size kinds sixteen c
         ∙ (λ i. stateFrom c (commandIn (lines-put lent all lines size i)) (replyIn (lines-put lent all lines size i)) kinds)
 
-    pub put-addresses : addressesLent (putMid 20 16 then kinds) ≡ addressesLent lent
+    pub put-addresses : addressesLent (putMid lentKinds mostOwed then kinds) ≡ addressesLent lent
     put-addresses = kinds-addresses then then-size kinds sixteen ∙ then-addresses
 
     pub octet-over : (f : Fixed) (d : Side) (x : ℕ) (c c′ : Control) (before sb cb sb′ cb′ : List ℕ) (w w′ : Written) (fit : Bool)
         → before ≡ kindsLent lent
-        → Stepped f d x (coreIn c (midOf 36 (length lent - 36) lent) before sb cb w) fit (coreIn c′ lines kinds sb′ cb′ w′)
-        → Stepped f d x (coreLent c lent sb cb w) fit (coreLent c′ (putMid 20 16 then kinds) sb′ cb′ w′)
+        → Stepped f d x (coreIn c (midOf lentCommand (length lent - lentCommand) lent) before sb cb w) fit (coreIn c′ lines kinds sb′ cb′ w′)
+        → Stepped f d x (coreLent c lent sb cb w) fit (coreLent c′ (putMid lentKinds mostOwed then kinds) sb′ cb′ w′)
     octet-over f d x c c′ before sb cb sb′ cb′ w w′ fit e stepped =
         subst (λ (s : State). Stepped f d x (coreLent c lent sb cb w) fit (coreFrom s sb′ cb′ w′)) (sym (put-state c′))
         (subst (λ (m : List ℕ). Stepped f d x (coreIn c m (kindsLent lent) sb cb w) fit (coreIn c′ lines kinds sb′ cb′ w′))
         (lines-lent lent all)
-        (subst (λ (k : List ℕ). Stepped f d x (coreIn c (midOf 36 (length lent - 36) lent) k sb cb w) fit (coreIn c′ lines kinds sb′ cb′ w′)) e stepped))
+        (subst (λ (k : List ℕ). Stepped f d x (coreIn c (midOf lentCommand (length lent - lentCommand) lent) k sb cb w) fit (coreIn c′ lines kinds sb′ cb′ w′)) e stepped))

@@ -3,7 +3,8 @@ ghost use mathlib.Core.Path.{_≡_};
 ghost use mathlib.Core.Bool.{false};
 ghost use lib.ListN.{length};
 ghost use borrow.Rule.Slice.PartMut.{putMid};
-ghost use Rattle.rules.specs.Answers.{isQueueFull};
+ghost use Rattle.rules.specs.Answers.{isQueueFull, mostOwed};
+ghost use Rattle.records.specs.Layout.{lentKinds, lentSize};
 ghost use Rattle.places.specs.Places.{isPassing};
 ghost use Rattle.records.specs.Sound.{sideIf, Counted};
 ghost use Rattle.steps.specs.Takes.{fixedLent, addressesLent, kindsLent, coreLent, coreBehind, isWithin, tookNext};
@@ -14,26 +15,16 @@ use output::put;
 use output::sixteen;
 use records::Control;
 use records::holdable;
+use records::layout::LENT_COMMAND;
+use records::layout::LENT_KINDS;
+use records::layout::LENT_MAPPED;
+use records::layout::LENT_SIZE;
 use records::queue_full;
 use rules::Answer;
+use rules::Kinds;
 
 mod octet;
 mod settling;
-
-// The octets of a line that may be held.
-pub const HELD: usize = 511;
-
-// What is lent of a record, one part behind the other, and where each begins: the client's address at 0, its mapped one,
-// the kinds owed, the client's line, the server's; and how many octets they are.
-pub const MAPPED: usize = 16;
-
-pub const KINDS: usize = 20;
-
-pub const COMMAND: usize = 36;
-
-pub const REPLY: usize = 547;
-
-pub const LENT: usize = 1058;
 
 // What a setup fixes: the client's address, its mapped address, and whether EPRT is supported.
 pub struct Fixed {
@@ -64,11 +55,11 @@ struct Fitted {
 
 // What a setup fixed, as it is lent.
 fn fixed_in(supported: bool, lent: &[u8]) -> Fixed
-    requires { ⌜ length (now lent) ≡ 1058 ⌝ }
+    requires { ⌜ length (now lent) ≡ lentSize ⌝ }
     ensures { λ r. ⌜ r ≡ fixedLent supported (now (lent .entry)) ⌝ }
 {
-    let client = sixteen(&lent[..MAPPED]);
-    let mapped = four(&lent[MAPPED..KINDS]);
+    let client = sixteen(&lent[..LENT_MAPPED]);
+    let mapped = four(&lent[LENT_MAPPED..LENT_KINDS]);
     Fixed {
         client,
         mapped,
@@ -76,18 +67,18 @@ fn fixed_in(supported: bool, lent: &[u8]) -> Fixed
     }
 }
 
-fn kinds_in(lent: &[u8]) -> [u8; 16]
-    requires { ⌜ length (now lent) ≡ 1058 ⌝ }
+fn kinds_in(lent: &[u8]) -> Kinds
+    requires { ⌜ length (now lent) ≡ lentSize ⌝ }
     ensures { λ r. ⌜ r ≡ kindsLent (now (lent .entry)) ⌝ }
 {
-    sixteen(&lent[KINDS..COMMAND])
+    sixteen(&lent[LENT_KINDS..LENT_COMMAND])
 }
 
-fn put_kinds(lent: &mut [u8], kinds: [u8; 16])
-    requires { ⌜ length (now lent) ≡ 1058 ⌝ }
-    ensures { λ _. ⌜ (now (lent .exit) ≡ putMid 20 16 (now (lent .entry)) kinds) × (length kinds ≡ 16) ⌝ }
+fn put_kinds(lent: &mut [u8], kinds: Kinds)
+    requires { ⌜ length (now lent) ≡ lentSize ⌝ }
+    ensures { λ _. ⌜ (now (lent .exit) ≡ putMid lentKinds mostOwed (now (lent .entry)) kinds) × (length kinds ≡ mostOwed) ⌝ }
 {
-    put(&mut lent[KINDS..COMMAND], 0, &kinds);
+    put(&mut lent[LENT_KINDS..LENT_COMMAND], 0, &kinds);
 }
 
 // Counts and positions can be.
@@ -97,7 +88,7 @@ fn within(control: Control, lent: usize, server: usize, client: usize, written: 
     if !holdable(control) {
         return false;
     }
-    if lent != LENT {
+    if lent != LENT_SIZE {
         return false;
     }
     if server < written.server {
@@ -179,7 +170,7 @@ fn lent_octet(
     written: Written,
 ) -> Fitted
     requires { ⌜ Bounded control written (now «to_server») (now «to_client») ⌝ }
-    requires { ⌜ length (now lent) ≡ 1058 ⌝ }
+    requires { ⌜ length (now lent) ≡ lentSize ⌝ }
     requires { ⌜ isQueueFull (sideIf «from_client») (isPassing (control .client .place)) (control .owed) ≡ false ⌝ }
     ensures { λ r.
         let k = coreLent control (now (lent .entry)) (now («to_server» .entry)) (now («to_client» .entry)) written in
@@ -195,7 +186,7 @@ fn lent_octet(
         control,
         kinds,
         x,
-        &mut lent[COMMAND..],
+        &mut lent[LENT_COMMAND..],
         to_server,
         to_client,
         written,

@@ -14,6 +14,8 @@ use Rattle.steps.proofs.Over.{then, then-size, then-addresses}
 use Rattle.arrivals.proofs.LentRuns.{run-over}
 use Rattle.arrivals.proofs.Parts.{ran-bounded, ran-then}
 use borrow.Author.Needs.{needs}
+use Rattle.rules.specs.Answers.{mostOwed}
+use Rattle.records.specs.Layout.{linesSize}
 use Rattle.arrivals.proofs.next_run.Statement.{statement}
 use Rattle.arrivals.proofs.next_run.Tie as tie
 
@@ -45,7 +47,7 @@ any-run-requires c κs =
     let before = coreLent (a .control) (a .lent .now) (a .to-server .now) (a .to-client .now) (a .written) in
     let after = coreLent (p .result .control) lent (p .last .1 .1 .1 .1 .1 .0) (p .last .1 .1 .1 .1 .1 .1 .0) (p .result .written) in (
       ran-bounded any (sideIf (a .from-client)) (a .octets .now) before after (a .i) (p .result .taken) (p .ensures .0 any) (start .pre .0),
-      (p .ensures .0 any .inside, subst (λ (m : List ℕ). length m ≡ 1022) (sym (lines-lent lent all)) (lines-size lent all)),
+      (p .ensures .0 any .inside, subst (λ (m : List ℕ). length m ≡ linesSize) (sym (lines-lent lent all)) (lines-size lent all)),
     )
 
 returns-3 : tie.Need-returns-3
@@ -69,7 +71,7 @@ returns-3 c =
     let after = coreLent (r .result .control) (then lent lines all kept) sb′ cb′ (r .result .written) in (
       λ f. ran-then f side (a .octets .now) before between after (a .i) (p .result .taken) (r .result .taken) (p .ensures .0 f)
           (run-over lent lines all kept f side (a .octets .now) (p .result .control) (r .result .control) (kinds .result) sb cb sb′ cb′ (p .result .written) (r .result .written)
-          (p .result .taken) (r .result .taken) (kinds .ensures ∙ filled 16 _ (kinds-size lent all)) (r .ensures f)),
+          (p .result .taken) (r .result .taken) (kinds .ensures ∙ filled mostOwed _ (kinds-size lent all)) (r .ensures f)),
       then-addresses lent lines all kept ∙ p .ensures .1,
     )
 

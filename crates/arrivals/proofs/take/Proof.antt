@@ -3,6 +3,7 @@ use borrow.Author.Needs.{needs}
 use borrow.Author.Tests.{not-true, not-false, ne-eqb}
 use mathlib.Core.Path.{refl, sym, ap, subst, _∙_}
 use lib.ListN.{length}
+use Rattle.records.specs.Layout.{lentSize}
 use Rattle.arrivals.specs.declared.Taken.{Taken}
 use Rattle.records.specs.Sound.{sideIf, Counted}
 use Rattle.steps.specs.Takes.{Took, tookIn, coreLent, Given}
@@ -38,7 +39,7 @@ returns-2 c =
       subst
           (λ (r : Taken). Given (tookIn (a .supported) (sideIf (a .from-client)) (a .start) (a .lent .now) (a .octets .now) (length (a .to-server .now)) (length (a .to-client .now))) (a .to-server .now) (a .to-client .now) (r .answer) (r .taken) (coreLent (r .control) (a .lent .now) (a .to-server .now) (a .to-client .now) (r .written)))
           (sym (c .nothing-taken2 .ensures))
-          (took-other (a .supported) (sideIf (a .from-client)) (a .start) (a .lent .now) (a .octets .now) (ne-eqb (length (a .lent .now)) 1058 (c .before .if2 .taken)) (a .to-server .now) (a .to-client .now)),
+          (took-other (a .supported) (sideIf (a .from-client)) (a .start) (a .lent .now) (a .octets .now) (ne-eqb (length (a .lent .now)) lentSize (c .before .if2 .taken)) (a .to-server .now) (a .to-client .now)),
       (refl, λ counts. subst Counted (sym (ap (λ (r : Taken). r .control) none)) counts),
     )
 

@@ -7,6 +7,7 @@ use native.Mathlib.Omega.{arith}
 use borrow.Author.Needs.{needs}
 use lib.ListN.{length, getD}
 use Rattle.rules.specs.Answers.{Side, answerNumber}
+use Rattle.records.specs.Layout.{lentSize}
 use Rattle.records.specs.declared.Control.{Control}
 use Rattle.records.specs.Sound.{sideIf, Counted}
 use Rattle.steps.specs.declared.Fixed.{Fixed}
@@ -24,7 +25,7 @@ abbrev Inv-loop : tie.InvT-loop
 Inv-loop supported from-client octets lent₀ to-server₀ to-client₀ control₀ written₀ i₀ lent to-server to-client control written i =
     Going (fixedLent supported lent₀) (sideIf from-client) octets (stateLent control₀ lent₀) to-server₀ to-client₀
     (coreLent control lent to-server to-client written) i
-    × (i ≤ length octets) × (length lent ≡ 1058) × (addressesLent lent ≡ addressesLent lent₀)
+    × (i ≤ length octets) × (length lent ≡ lentSize) × (addressesLent lent ≡ addressesLent lent₀)
 
 abbrev μ-loop : tie.MeasureT-loop
 μ-loop supported from-client octets lent₀ to-server₀ to-client₀ control₀ written₀ i₀ lent to-server to-client control written i =
@@ -63,7 +64,7 @@ module _ (c : tie.After-written Inv-loop μ-loop) where
       (going-run fixed side (a .octets .now) (stateLent (a .start) (a .lent .now)) (a .to-server .now) (a .to-client .now) _
       (between (r .result .control)) (l .i) reached (l .inv .0) (r .ensures .0 fixed))
 
-  size : length (c .before .before .before .before .before .before .before .before .next-run .last .1 .1 .1 .1 .0) ≡ 1058
+  size : length (c .before .before .before .before .before .before .before .before .next-run .last .1 .1 .1 .1 .0) ≡ lentSize
   size = c .before .before .before .before .before .before .before .before .next-run .kept .1 .1 .1 .1 .0 ∙ c .before .before .before .before .before .before .before .before .before .before .before .before .before .loop .inv .2
 
   addresses : addressesLent (c .before .before .before .before .before .before .before .before .next-run .last .1 .1 .1 .1 .0) ≡ addressesLent (start .args .lent .now)

@@ -2,6 +2,9 @@
 use native.Mathlib.Omega.{arith}
 use Rattle.image.proofs.Reading.{copied, fields-read}
 use borrow.Author.Needs.{needs}
+use Rattle.rules.specs.Lines.{mostHeld}
+use Rattle.rules.specs.Answers.{mostOwed}
+use Rattle.records.specs.Layout.{clientAt, mappedAt, kindsAt, commandAt, replyAt, ipv6Width, ipv4Width}
 use Rattle.image.proofs.fields.Statement.{statement}
 use Rattle.image.proofs.fields.Tie as tie
 
@@ -86,11 +89,11 @@ returns c =
     let image = start .args .image .now in
     let size = start .pre in
     fields-read image
-    (copied image 35 16 (omega arith) (c .before .before .before .before .before .before .before .before .before .before .before .sixteen .ensures))
-    (copied image 51 4 (omega arith) (c .before .before .before .before .before .before .before .before .before .four .ensures))
-    (copied image 55 16 (omega arith) (c .before .before .before .before .before .before .before .sixteen2 .ensures))
-    (copied image 71 511 (omega arith) (c .before .before .before .before .before .held-line .ensures))
-    (copied image 582 511 (omega arith) (c .before .before .before .held-line2 .ensures))
+    (copied image clientAt ipv6Width (omega arith) (c .before .before .before .before .before .before .before .before .before .before .before .sixteen .ensures))
+    (copied image mappedAt ipv4Width (omega arith) (c .before .before .before .before .before .before .before .before .before .four .ensures))
+    (copied image kindsAt mostOwed (omega arith) (c .before .before .before .before .before .before .before .sixteen2 .ensures))
+    (copied image commandAt mostHeld (omega arith) (c .before .before .before .before .before .held-line .ensures))
+    (copied image replyAt mostHeld (omega arith) (c .before .before .before .held-line2 .ensures))
     (c .before .before .control-in .ensures)
     (c .before .counts-at .ensures)
     (c .counts-at2 .ensures)

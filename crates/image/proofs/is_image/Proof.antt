@@ -1,7 +1,4 @@
 -- `image::is_image`: too few octets, a mark with no value, or what the places say.
-use mathlib.Core.Path.{sym}
-use native.Mathlib.Omega.{arith}
-use lib.Seq.{length-take-le}
 use Rattle.image.proofs.Reading.{too-short, no-mark, by-places}
 use borrow.Author.Needs.{needs}
 use Rattle.image.proofs.is_image.Statement.{statement}
@@ -9,9 +6,6 @@ use Rattle.image.proofs.is_image.Tie as tie
 
 returns : tie.Need-returns
 returns c = too-short (c .before .before .args .image .now) (c .if1 .taken)
-
-slice-aggregate-at-most : tie.Need-slice-aggregate-at-most
-slice-aggregate-at-most c = sym (length-take-le 5 (c .before .before .before .args .image .now) (omega (arith, c .before .if1 .left)))
 
 returns-2 : tie.Need-returns-2
 returns-2 c = no-mark (c .before .before .before .before .before .args .image .now) (c .before .before .before .if1 .left) (c .before .at-most .ensures) (c .if2 .taken)
@@ -24,7 +18,9 @@ is-image-spec =
     tie.close
     (tie.spec
     returns
-    slice-aggregate-at-most
+    (λ c. search needs)
+    (λ c. search needs)
+    (λ c. search needs)
     (λ c κs. search needs)
     returns-2
     (λ c. search needs)

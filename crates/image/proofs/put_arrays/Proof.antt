@@ -5,6 +5,8 @@ use lib.ListN.{length}
 use Rattle.image.specs.Image.{arraysOf}
 use Rattle.image.proofs.Writing.{andThen}
 use borrow.Author.Needs.{needs}
+use Rattle.rules.specs.Lines.{mostHeld}
+use Rattle.rules.specs.Answers.{mostOwed}
 use Rattle.image.proofs.put_arrays.Statement.{statement}
 use Rattle.image.proofs.put_arrays.Tie as tie
 
@@ -24,7 +26,7 @@ slice-aggregate-put-3 : tie.Need-slice-aggregate-put-3
 slice-aggregate-put-3 c =
     let start = c .before .before .before .before .before .before .before .before .before .before .before .before .before .before .before .before .before .before in
     let later = start .good .1 .1 .0 .1 .1 .1 .1 .1 in
-    let size : length (start .args .session .kinds) ≡ 16 = search needs in
+    let size : length (start .args .session .kinds) ≡ mostOwed = search needs in
     sym size
 
 put-requires-3 : tie.Need-put-requires-3
@@ -34,7 +36,7 @@ slice-aggregate-put-4 : tie.Need-slice-aggregate-put-4
 slice-aggregate-put-4 c =
     let start = c .before .before .before .before .before .before .before .before .before .before .before .before .before .before .before .before .before .before .before .before .before .before .before in
     let later = start .good .1 .1 .0 .1 .1 .1 .1 .1 in
-    let size : length (start .args .session .command) ≡ 511 = search needs in
+    let size : length (start .args .session .command) ≡ mostHeld = search needs in
     sym size
 
 put-requires-4 : tie.Need-put-requires-4
@@ -44,7 +46,7 @@ slice-aggregate-put-5 : tie.Need-slice-aggregate-put-5
 slice-aggregate-put-5 c =
     let start = c .before .before .before .before .before .before .before .before .before .before .before .before .before .before .before .before .before .before .before .before .before .before .before .before .before .before .before .before in
     let later = start .good .1 .1 .0 .1 .1 .1 .1 .1 in
-    let size : length (start .args .session .reply) ≡ 511 = search needs in
+    let size : length (start .args .session .reply) ≡ mostHeld = search needs in
     sym size
 
 put-requires-5 : tie.Need-put-requires-5

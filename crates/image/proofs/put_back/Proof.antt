@@ -5,6 +5,7 @@ use Rattle.output.proofs.Placing.{joined}
 use Rattle.image.specs.Image.{marksIn, numbersFrom}
 use Rattle.image.proofs.Writing.{numbers-put, front-length}
 use borrow.Author.Needs.{needs}
+use Rattle.records.specs.Layout.{epsvAt}
 use Rattle.image.proofs.put_back.Statement.{statement}
 use Rattle.image.proofs.put_back.Tie as tie
 
@@ -25,7 +26,7 @@ returns c =
     let long = front-length true true (a .control) (a .up) (a .down) in
     let numbers = numbers-put _ _ (a .control) (a .up) (a .down) (c .before .before .before .before .before .before .before .before .before .before .uncapped .ensures) (c .before .before .before .before .before .before .before .before .before .uncapped2 .ensures) (c .before .before .before .before .before .before .before .before .uncapped3 .ensures)
     (c .before .before .put-numbers .ensures) in
-    joined (a .image .now) 2 (marksIn (a .control)) (numbersFrom (a .control) (a .up) (a .down))
+    joined (a .image .now) epsvAt (marksIn (a .control)) (numbersFrom (a .control) (a .up) (a .down))
     (c .before .before .before .before .before .before .put-control .ensures) numbers (omega arith) .1
 
 pub put-back-spec : {M : Type 1} → statement M

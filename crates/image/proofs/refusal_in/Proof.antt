@@ -2,6 +2,8 @@
 use native.Mathlib.Omega.{arith}
 use Rattle.image.proofs.Reading.{copied, refused-by-parts}
 use borrow.Author.Needs.{needs}
+use Rattle.rules.specs.Answers.{mostOwed}
+use Rattle.records.specs.Layout.{kindsAt}
 use Rattle.image.proofs.refusal_in.Statement.{statement}
 use Rattle.image.proofs.refusal_in.Tie as tie
 
@@ -11,7 +13,7 @@ returns c =
     let image = start .args .image .now in
     let size = start .pre in
     refused-by-parts image (start .args .direction) (c .before .before .before .before .control-in .ensures)
-    (copied image 55 16 (omega arith) (c .before .before .sixteen .ensures))
+    (copied image kindsAt mostOwed (omega arith) (c .before .before .sixteen .ensures))
     (c .refusal-on .ensures)
 
 pub refusal-in-spec : {M : Type 1} → statement M

@@ -3,6 +3,7 @@ use mathlib.Core.Path.{_≡_, sym, ap, _∙_}
 use native.Mathlib.Omega.{arith}
 use borrow.Author.Needs.{needs}
 use lib.ListN.{length, drop}
+use Rattle.rules.specs.Answers.{mostOwed}
 use Rattle.queue.specs.Kinds.{queueOf}
 use Rattle.queue.specs.Heads.{answerOf, answerFirst}
 use Rattle.queue.proofs.Answers.{none-owed, none-kept, at-first, at-none}
@@ -14,7 +15,7 @@ here : (c : tie.After-kind-of) → answerOf (c .kind-of .result) ≡ answerFirst
 unfolding answerFirst
 here c =
     let a = c .before .before .before .args in
-    let long : length (a .t1) ≡ 16 = search needs in
+    let long : length (a .t1) ≡ mostOwed = search needs in
     at-first (a .t1) (a .i) (a .owed) answerFirst (c .before .before .if1 .left) (omega arith) (c .kind-of .ensures)
 
 returns : tie.Need-returns
@@ -27,7 +28,7 @@ returns-2 : tie.Need-returns-2
 unfolding answerFirst
 returns-2 c =
     let a = c .before .before .args in
-    let long : length (a .t1) ≡ 16 = search needs in
+    let long : length (a .t1) ≡ mostOwed = search needs in
     at-none (a .t1) (a .i) (a .owed) answerFirst (none-kept (a .t1) (a .i) (a .owed) (omega arith))
 
 array-read-kind-of : tie.Need-array-read-kind-of

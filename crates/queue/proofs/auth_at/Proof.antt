@@ -5,6 +5,7 @@ use borrow.Author.Needs.{needs}
 use lib.ListN.{length, drop}
 use Rattle.rules.specs.Replies.{isAuth, authAtHead}
 use Rattle.rules.specs.declared.Kind.{Kind}
+use Rattle.rules.specs.Answers.{mostOwed}
 use Rattle.queue.specs.Kinds.{queueOf}
 use Rattle.queue.proofs.Answers.{none-owed, none-kept, at-first, at-none}
 use Rattle.queue.proofs.auth_at.Statement.{statement}
@@ -15,7 +16,7 @@ here : (c : tie.After-kind-of) → isAuth (c .kind-of .result) ≡ authAtHead (d
 unfolding authAtHead
 here c =
     let a = c .before .before .before .args in
-    let long : length (a .t1) ≡ 16 = search needs in
+    let long : length (a .t1) ≡ mostOwed = search needs in
     at-first (a .t1) (a .from) (a .owed) authAtHead (c .before .before .if1 .left) (omega arith) (c .kind-of .ensures)
 
 returns : tie.Need-returns
@@ -28,7 +29,7 @@ returns-2 : tie.Need-returns-2
 unfolding authAtHead
 returns-2 c =
     let a = c .before .before .args in
-    let long : length (a .t1) ≡ 16 = search needs in
+    let long : length (a .t1) ≡ mostOwed = search needs in
     at-none (a .t1) (a .from) (a .owed) authAtHead (none-kept (a .t1) (a .from) (a .owed) (omega arith))
 
 array-read-kind-of : tie.Need-array-read-kind-of

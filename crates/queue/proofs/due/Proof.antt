@@ -6,6 +6,7 @@ use native.Mathlib.Omega.{arith}
 use borrow.Author.Needs.{needs}
 use lib.ListN.{length, drop}
 use Rattle.rules.specs.Replies.{headAnswers}
+use Rattle.rules.specs.Answers.{mostOwed, mostAnswers}
 use Rattle.queue.specs.Kinds.{queueOf, answersAtHead}
 use Rattle.queue.proofs.Answers.{stops, goes-on, none-kept, none-at-end}
 use Rattle.queue.proofs.due.Statement.{statement}
@@ -15,10 +16,10 @@ abbrev Inv-loop : tie.InvT-loop
 Inv-loop kinds from owed until₀ octets₀ until octets =
     (from + answersAtHead (drop from (queueOf kinds owed)) ≡ until + answersAtHead (drop until (queueOf kinds owed)))
     × (length (headAnswers (drop from (queueOf kinds owed))) ≡ octets + length (headAnswers (drop until (queueOf kinds owed))))
-    × (octets + 48 * (16 - until) ≤ 768)
+    × (octets + 48 * (mostOwed - until) ≤ mostAnswers)
 
 abbrev μ-loop : tie.MeasureT-loop
-μ-loop kinds from owed until₀ octets₀ until octets = 16 - until
+μ-loop kinds from owed until₀ octets₀ until octets = mostOwed - until
 
 loop-holds : tie.Need-loop-holds Inv-loop μ-loop
 loop-holds c = (refl, omega arith, omega arith)
@@ -66,7 +67,7 @@ returns-2 : tie.Need-returns-2 Inv-loop μ-loop
 returns-2 c =
     let a = c .before .before .args in
     let l = c .before .loop in
-    let long : length (a .kinds) ≡ 16 = search needs in
+    let long : length (a .kinds) ≡ mostOwed = search needs in
     let s = none-at-end _ (none-kept (a .kinds) (l .until) (a .owed) (omega arith)) in
     let z = ap (λ (t : List ℕ). length t) (s .text) in
     ((omega arith, omega arith), omega arith)

@@ -7,6 +7,7 @@ use borrow.Author.Needs.{needs}
 use lib.ListN.{length, set}
 use lib.Seq.{set-out}
 use Rattle.rules.specs.declared.Kind.{Kind}
+use Rattle.rules.specs.Answers.{mostOwed}
 use Rattle.queue.specs.declared.Owes.{Owes}
 use Rattle.queue.specs.Kinds.{codeOf, pushed}
 use Rattle.queue.proofs.push.Statement.{statement}
@@ -33,7 +34,7 @@ returns c = search needs
 returns-2 : tie.Need-returns-2
 returns-2 c =
     let a = c .before .before .before .before .args in
-    let long : length (a .kinds) ≡ 16 = search needs in
+    let long : length (a .kinds) ≡ mostOwed = search needs in
     behind (a .kinds) (a .owed) (omega arith) (c .before .before .owes .given .1)
 
 code-of-requires : tie.Need-code-of-requires

@@ -5,6 +5,7 @@ use native.Mathlib.Omega.{arith}
 use borrow.Author.Needs.{needs}
 use lib.ListN.{length, drop}
 use Rattle.rules.specs.Replies.{headAnswers}
+use Rattle.rules.specs.Answers.{mostOwed}
 use Rattle.output.proofs.Placing.{no-room}
 use Rattle.queue.specs.Kinds.{queueOf}
 use Rattle.queue.proofs.Answers.{stops, goes-on, none-kept, none-at-end}
@@ -17,7 +18,7 @@ Inv-loop out₀ at kinds from owed place₀ i₀ out place i =
     Remaining out₀ at (headAnswers (drop from (queueOf kinds owed))) out place (headAnswers (drop i (queueOf kinds owed)))
 
 abbrev μ-loop : tie.MeasureT-loop
-μ-loop out₀ at kinds from owed place₀ i₀ out place i = 16 - i
+μ-loop out₀ at kinds from owed place₀ i₀ out place i = mostOwed - i
 
 returns : tie.Need-returns Inv-loop μ-loop
 returns c =
@@ -98,7 +99,7 @@ returns-4 c =
     let a = c .before .before .before .before .before .before .before .args in
     let l = c .before .loop in
     let q = queueOf (a .kinds) (a .owed) in
-    let long : length (a .kinds) ≡ 16 = search needs in
+    let long : length (a .kinds) ≡ mostOwed = search needs in
     let s = none-at-end (drop (l .i) q) (none-kept (a .kinds) (l .i) (a .owed) (omega arith)) in
     at-end (a .out .now) (a .at) (headAnswers (drop (a .from) q)) (l .out) (l .place) (headAnswers (drop (l .i) q)) (all-fits (c .before .before)) (l .inv) (s .text)
 

@@ -7,14 +7,15 @@ use lib.Seq.{length-take-le, getD-take}
 use borrow.Author.Needs.{needs}
 use borrow.Author.Tests.{le-leb, lt-leb}
 use Rattle.rules.specs.Octets.{every}
-use Rattle.queue.specs.Kinds.{isListed}
+use Rattle.rules.specs.Answers.{mostOwed}
+use Rattle.queue.specs.Kinds.{isListed, lastCode}
 use Rattle.octets.proofs.Runs.{every-yes, every-not, every-end}
 use Rattle.records.proofs.kinds_listed.Statement.{statement}
 use Rattle.records.proofs.kinds_listed.Tie as tie
 
 abbrev Inv-loop : tie.InvT-loop
 Inv-loop owed kinds i₀ i =
-    (i ≤ owed) × (length kinds ≡ 16) × (every isListed (take owed kinds) ≡ every isListed (drop i (take owed kinds)))
+    (i ≤ owed) × (length kinds ≡ mostOwed) × (every isListed (take owed kinds) ≡ every isListed (drop i (take owed kinds)))
 
 abbrev μ-loop : tie.MeasureT-loop
 μ-loop owed kinds i₀ i = owed - i
@@ -32,7 +33,7 @@ returns c =
     let l = c .before .before .loop in
     let more : l .i < a .owed = omega arith in
     let size : length (take (a .owed) (a .t1)) ≡ a .owed = length-take-le (a .owed) (a .t1) (omega arith) in
-    sym (l .inv .2 ∙ every-not isListed (take (a .owed) (a .t1)) (l .i) (omega arith) (rw (getD-take (a .owed) (a .t1) (l .i) 0 more) (lt-leb _ 8 (c .if1 .taken))))
+    sym (l .inv .2 ∙ every-not isListed (take (a .owed) (a .t1)) (l .i) (omega arith) (rw (getD-take (a .owed) (a .t1) (l .i) 0 more) (lt-leb _ lastCode (c .if1 .taken))))
 
 add-i : tie.Need-add-i Inv-loop μ-loop
 add-i c = omega arith
@@ -49,7 +50,7 @@ loop-again c =
     let size : length (take (a .owed) (a .t1)) ≡ a .owed = length-take-le (a .owed) (a .t1) (omega arith) in (
       omega arith,
       l .inv .1,
-      l .inv .2 ∙ every-yes isListed (take (a .owed) (a .t1)) (l .i) (omega arith) (rw (getD-take (a .owed) (a .t1) (l .i) 0 more) (le-leb _ 8 (c .if1 .left))),
+      l .inv .2 ∙ every-yes isListed (take (a .owed) (a .t1)) (l .i) (omega arith) (rw (getD-take (a .owed) (a .t1) (l .i) 0 more) (le-leb _ lastCode (c .if1 .left))),
     )
 
 returns-2 : tie.Need-returns-2 Inv-loop μ-loop

@@ -5,6 +5,7 @@ use native.Mathlib.Omega.{arith}
 use lib.ListN.{length}
 use borrow.Author.Needs.{needs}
 use Rattle.rules.specs.Answers.{client, server}
+use Rattle.rules.specs.Lines.{mostHeld}
 use Rattle.session.specs.Calls.{stateOf, endStep, ended}
 use Rattle.records.proofs.Refusals.{by-nothing, countable}
 use Rattle.session.proofs.Outcomes.{client-ends, server-ends, untouched, turned-away}
@@ -44,7 +45,7 @@ returns-2 c =
     let s = a .session in
     let free = by-nothing _ (sym (c .before .before .before .before .before .before .before .refusal-of .ensures) ∙ c .before .before .before .before .before .enum-told .given .1) in
     let known = c .before .before .before .before .before .before .before .before .before .before .good .0 .1 .1 .1 .1 .1 .1 .1 .0 in
-    let size : length (s .command) ≡ 511 = search needs in
+    let size : length (s .command) ≡ mostHeld = search needs in
     let held : s .control .client .held ≤ length (s .command) = omega (arith, size, countable s (a .direction) free .command) in
     rw (client-ends s (a .direction) (a .to-server .now) (a .to-client .now) free (c .before .before .before .before .if1 .taken) held)
     (c .before .before .end-client .ensures .0, (c .before .before .end-client .ensures .1, untouched s client (endStep client (stateOf s)) _ (a .to-client .now) (c .before .before .end-client .ensures .0) .1 refl))
@@ -64,7 +65,7 @@ returns-3 c =
     let s = a .session in
     let free = by-nothing _ (sym (c .before .before .before .before .before .before .before .refusal-of .ensures) ∙ c .before .before .before .before .before .enum-told .given .1) in
     let known = c .before .before .before .before .before .before .before .before .before .before .good .0 .1 .1 .1 .1 .1 .1 .1 .1 .0 in
-    let size : length (s .reply) ≡ 511 = search needs in
+    let size : length (s .reply) ≡ mostHeld = search needs in
     let held : s .control .server .held ≤ length (s .reply) = omega (arith, size, countable s (a .direction) free .reply) in
     rw (server-ends s (a .direction) (a .to-server .now) (a .to-client .now) free (c .before .before .before .before .if1 .left) held)
     (c .before .before .end-server .ensures .0, (untouched s server (endStep server (stateOf s)) _ (a .to-server .now) (c .before .before .end-server .ensures .0) .0 refl, c .before .before .end-server .ensures .1))

@@ -7,6 +7,7 @@ use lib.Seq.{length-take-le}
 use borrow.Author.Tests.{le-leb}
 use borrow.Author.Needs.{needs}
 use Rattle.rules.specs.Answers.{client}
+use Rattle.rules.specs.Lines.{mostHeld}
 use Rattle.places.specs.declared.Direction.{Direction}
 use Rattle.records.specs.declared.Control.{Control}
 use Rattle.records.specs.Controls.{withClient}
@@ -29,13 +30,13 @@ returns c =
 array-share-prefix-command : tie.Need-array-share-prefix-command
 array-share-prefix-command c =
     let s = c .before .before .before .before .before .before .before .before .args .session in
-    let size : length (s .command) ≡ 511 = search needs in
+    let size : length (s .command) ≡ mostHeld = search needs in
     omega (arith, size, c .before .before .before .before .before .before .before .before .pre)
 
 slice-aggregate-put : tie.Need-slice-aggregate-put
 slice-aggregate-put c =
     let s = c .before .before .before .before .before .before .before .before .before .args .session in
-    let size : length (s .command) ≡ 511 = search needs in
+    let size : length (s .command) ≡ mostHeld = search needs in
     sym (length-take-le (s .control .client .held) (s .command) (omega (arith, size, c .before .before .before .before .before .before .before .before .before .pre)))
 
 put-requires : tie.Need-put-requires
@@ -61,7 +62,7 @@ returns-2 c =
     let out = start .args .to-server .now in
     let held = s .control .client .held in
     let known = start .good .0 .1 .1 .1 .1 .1 .1 .1 .0 in
-    let size : length (s .command) ≡ 511 = search needs in
+    let size : length (s .command) ≡ mostHeld = search needs in
     let there : held ≤ length (s .command) = omega (arith, start .pre) in
     let room = c .before .before .before .before .before .before .before .before .before .before .before .if1 .left in
     let put = c .before .before .before .before .before .put in

@@ -7,6 +7,7 @@ use lib.Seq.{length-take-le}
 use borrow.Author.Tests.{le-leb}
 use borrow.Author.Needs.{needs}
 use Rattle.rules.specs.Answers.{server}
+use Rattle.rules.specs.Lines.{mostHeld}
 use Rattle.places.specs.declared.Direction.{Direction}
 use Rattle.records.specs.declared.Control.{Control}
 use Rattle.records.specs.Controls.{withServer}
@@ -29,13 +30,13 @@ returns c =
 array-share-prefix-reply : tie.Need-array-share-prefix-reply
 array-share-prefix-reply c =
     let s = c .before .before .before .before .before .before .before .before .args .session in
-    let size : length (s .reply) ≡ 511 = search needs in
+    let size : length (s .reply) ≡ mostHeld = search needs in
     omega (arith, size, c .before .before .before .before .before .before .before .before .pre)
 
 slice-aggregate-put : tie.Need-slice-aggregate-put
 slice-aggregate-put c =
     let s = c .before .before .before .before .before .before .before .before .before .args .session in
-    let size : length (s .reply) ≡ 511 = search needs in
+    let size : length (s .reply) ≡ mostHeld = search needs in
     sym (length-take-le (s .control .server .held) (s .reply) (omega (arith, size, c .before .before .before .before .before .before .before .before .before .pre)))
 
 put-requires : tie.Need-put-requires
@@ -61,7 +62,7 @@ returns-2 c =
     let out = start .args .to-client .now in
     let held = s .control .server .held in
     let known = start .good .0 .1 .1 .1 .1 .1 .1 .1 .1 .0 in
-    let size : length (s .reply) ≡ 511 = search needs in
+    let size : length (s .reply) ≡ mostHeld = search needs in
     let there : held ≤ length (s .reply) = omega (arith, start .pre) in
     let room = c .before .before .before .before .before .before .before .before .before .before .before .if1 .left in
     let put = c .before .before .before .before .before .put in

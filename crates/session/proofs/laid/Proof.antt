@@ -2,6 +2,9 @@
 use mathlib.Core.Path.{_≡_}
 use lib.ListN.{length}
 use borrow.Author.Needs.{needs}
+use Rattle.rules.specs.Lines.{mostHeld}
+use Rattle.rules.specs.Answers.{mostOwed}
+use Rattle.records.specs.Layout.{ipv6Width, ipv4Width}
 use Rattle.session.proofs.Lines.{all-laid}
 use Rattle.session.proofs.laid.Statement.{statement}
 use Rattle.session.proofs.laid.Tie as tie
@@ -9,11 +12,11 @@ use Rattle.session.proofs.laid.Tie as tie
 returns : tie.Need-returns
 returns c =
     let a = c .before .before .before .before .before .before .before .before .before .before .before .before .before .before .before .before .before .before .before .before .args in
-    let client : length (a .t1) ≡ 16 = search needs in
-    let mapped : length (a .t2) ≡ 4 = search needs in
-    let kinds : length (a .t3) ≡ 16 = search needs in
-    let command : length (a .t4) ≡ 511 = search needs in
-    let reply : length (a .t5) ≡ 511 = search needs in (
+    let client : length (a .t1) ≡ ipv6Width = search needs in
+    let mapped : length (a .t2) ≡ ipv4Width = search needs in
+    let kinds : length (a .t3) ≡ mostOwed = search needs in
+    let command : length (a .t4) ≡ mostHeld = search needs in
+    let reply : length (a .t5) ≡ mostHeld = search needs in (
       all-laid (a .t1) (a .t2) (a .t3) (a .t4) (a .t5) client mapped kinds command reply (c .before .before .before .before .before .before .before .before .before .before .before .before .before .before .before .before .before .put .ensures .1) (c .before .before .before .before .before .before .before .before .before .before .before .before .before .put2 .ensures .1)
           (c .before .before .before .before .before .before .before .before .before .put3 .ensures .1) (c .before .before .before .before .before .put4 .ensures .1) (c .before .put5 .ensures .1),
       (client, mapped, kinds, command, reply),

@@ -5,21 +5,22 @@ use lib.ListN.{take, drop, length-drop}
 use lib.Seq.{length-take-le}
 use Rattle.output.proofs.Front.{filled}
 use borrow.Author.Needs.{needs}
+use Rattle.records.specs.Layout.{ipv6Width, ipv4Width, lentMapped}
 use Rattle.steps.proofs.fixed_in.Statement.{statement}
 use Rattle.steps.proofs.fixed_in.Tie as tie
 
 slice-aggregate-sixteen : tie.Need-slice-aggregate-sixteen
 slice-aggregate-sixteen c =
     let start = c .before .before in
-    sym (length-take-le 16 (start .args .lent .now) (omega (arith, start .pre)))
+    sym (length-take-le ipv6Width (start .args .lent .now) (omega (arith, start .pre)))
 
 returns : tie.Need-returns
 returns c =
     let start = c .before .before .before .before .before in
     let lent = start .args .lent .now in
     let all = start .pre in
-    let client = c .before .before .sixteen .ensures ∙ filled 16 (take 16 lent) (length-take-le 16 lent (omega arith)) in
-    let mapped = c .four .ensures ∙ filled 4 (take 4 (drop 16 lent)) (length-take-le 4 (drop 16 lent) (omega (arith, length-drop 16 lent))) in
+    let client = c .before .before .sixteen .ensures ∙ filled ipv6Width (take ipv6Width lent) (length-take-le ipv6Width lent (omega arith)) in
+    let mapped = c .four .ensures ∙ filled ipv4Width (take ipv4Width (drop lentMapped lent)) (length-take-le ipv4Width (drop lentMapped lent) (omega (arith, length-drop lentMapped lent))) in
     cc
 
 pub fixed-in-spec : {M : Type 1} → statement M

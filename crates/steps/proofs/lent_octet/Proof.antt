@@ -10,6 +10,7 @@ use Rattle.steps.specs.Core.{Stepped}
 use Rattle.steps.proofs.Lent.{lines-lent, lines-size}
 use Rattle.steps.proofs.Over.{then-size, octet-over, put-addresses}
 use borrow.Author.Needs.{needs}
+use Rattle.records.specs.Layout.{linesSize}
 use Rattle.steps.proofs.lent_octet.Statement.{statement}
 use Rattle.steps.proofs.lent_octet.Tie as tie
 
@@ -18,7 +19,7 @@ any-octet-requires c κs =
     let start = c .before .before .before .before .before .before .before .before .before .before in
     let lent = start .args .lent .now in
     let all = start .pre .1 .0 in
-    (start .pre .0, (subst (λ (m : List ℕ). length m ≡ 1022) (sym (lines-lent lent all)) (lines-size lent all), start .pre .1 .1))
+    (start .pre .0, (subst (λ (m : List ℕ). length m ≡ linesSize) (sym (lines-lent lent all)) (lines-size lent all), start .pre .1 .1))
 
 put-kinds-requires : tie.Need-put-kinds-requires
 put-kinds-requires c κs =

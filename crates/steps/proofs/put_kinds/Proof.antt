@@ -6,6 +6,8 @@ use Rattle.steps.specs.Takes.{kindsLent}
 use Rattle.output.proofs.Front.{fills}
 use Rattle.steps.proofs.Lent.{kinds-size}
 use borrow.Author.Needs.{needs}
+use Rattle.rules.specs.Answers.{mostOwed}
+use Rattle.records.specs.Layout.{lentKinds}
 use Rattle.steps.proofs.put_kinds.Statement.{statement}
 use Rattle.steps.proofs.put_kinds.Tie as tie
 
@@ -13,9 +15,9 @@ returns : tie.Need-returns
 returns c =
     let start = c .before .before .before .before .before .before in
     let lent = start .args .lent .now in
-    let sixteen : length (c .before .before .before .before .before .before .args .t2) ≡ 16 = search needs in
+    let sixteen : length (c .before .before .before .before .before .before .args .t2) ≡ mostOwed = search needs in
     let whole = fills (kindsLent lent) (start .args .t2) (sixteen ∙ sym (kinds-size lent (start .pre))) in
-    (ap (putMid 20 16 lent) (c .before .before .put .ensures .1 ∙ whole), sixteen)
+    (ap (putMid lentKinds mostOwed lent) (c .before .before .put .ensures .1 ∙ whole), sixteen)
 
 pub put-kinds-spec : {M : Type 1} → statement M
 put-kinds-spec =

@@ -5,6 +5,8 @@ use Prim.Native.Nat.{_+_, _-_}
 use native.Mathlib.Omega.{arith}
 use borrow.Author.Needs.{needs}
 use borrow.Rule.Slice.PartMut.{putMid}
+use Rattle.rules.specs.Lines.{mostHeld}
+use Rattle.records.specs.Layout.{lentCommand}
 use Rattle.arrivals.specs.PlainRuns.{SaidPlain}
 use Rattle.arrivals.proofs.PlainLines.{said-then, lent-size, all-arrived, line-held, line-ended}
 use Rattle.arrivals.proofs.plain.client_line.Statement.{statement}
@@ -16,7 +18,7 @@ held-here : (c : tie.After-hold-run)
     let j = c .hold-run .result in
     SaidPlain (a .octets .now) (a .i) (a .held) (a .owed) (a .lent .now) (a .to-server .now) (a .at)
     (record { more = false; taken = j; held = a .held + (j - a .i); owed = a .owed; at = a .at })
-    (putMid 36 511 (a .lent .now) (c .hold-run .last .1 .1 .0)) (a .to-server .now))
+    (putMid lentCommand mostHeld (a .lent .now) (c .hold-run .last .1 .1 .0)) (a .to-server .now))
 held-here c =
     let start = c .before .before .before .before .before in
     let a = start .args in
@@ -45,7 +47,7 @@ returns c =
     let plain = sym (c .before .before .before .before .before .is-plain .ensures) ∙ c .before .before .before .before .if2 .taken in
     let text = c .before .before .before .before .before .before .before .before .text .ensures in
     let put = c .before .before .put-line .ensures in
-    let ended = line-ended (a .octets .now) (a .held + (h .hold-run .result - a .i)) (a .owed) (putMid 36 511 (a .lent .now) (h .hold-run .last .1 .1 .0)) all
+    let ended = line-ended (a .octets .now) (a .held + (h .hold-run .result - a .i)) (a .owed) (putMid lentCommand mostHeld (a .lent .now) (h .hold-run .last .1 .1 .0)) all
     (a .to-server .now) (a .at) (may .0) (may .1) (held .held) (pre .0 .1) (held .still) (pre .1 .2) (may .2) text plain (put .0)
     (put .1) in
     (said-then held ended, λ _. omega arith)

@@ -6,6 +6,7 @@ use native.Mathlib.Omega.{arith}
 use lib.ListN.{length}
 use borrow.Author.Needs.{needs}
 use borrow.Author.Tests.{not-false, ltb-true}
+use Rattle.records.specs.Layout.{lentSize}
 use Rattle.arrivals.specs.PlainRuns.{SaidPlain}
 use Rattle.arrivals.proofs.PlainLines.{said-none, said-then, said-so, said-inside}
 use Rattle.arrivals.proofs.plain.client_lines.Statement.{statement}
@@ -14,7 +15,7 @@ use Rattle.arrivals.proofs.plain.client_lines.Tie as tie
 abbrev Inv-loop : tie.InvT-loop
 Inv-loop start before octets from lent₀ to-server₀ first held₀ owed₀ at₀ i₀ lent to-server held owed at i =
     SaidPlain octets from start before lent₀ to-server₀ first (record { more = false; taken = i; held = held; owed = owed; at = at }) lent to-server
-    × (i ≤ length octets) × (length lent ≡ 1058) × (length to-server ≡ length to-server₀)
+    × (i ≤ length octets) × (length lent ≡ lentSize) × (length to-server ≡ length to-server₀)
 
 abbrev μ-loop : tie.MeasureT-loop
 μ-loop start before octets from lent₀ to-server₀ first held₀ owed₀ at₀ i₀ lent to-server held owed at i =

@@ -14,6 +14,9 @@ use Rattle.arrivals.specs.PlainRuns.{AnsweredPlain}
 use Rattle.steps.proofs.Lent.{put-size, kinds-size}
 use Rattle.arrivals.proofs.PlainReplies.{removes-within, answered-then, held-size, held-text, reply-held, reply-ended}
 use borrow.Author.Needs.{needs}
+use Rattle.rules.specs.Lines.{mostHeld}
+use Rattle.rules.specs.Answers.{mostOwed}
+use Rattle.records.specs.Layout.{lentKinds, lentReply, lentSize}
 use Rattle.arrivals.proofs.plain.server_line.Statement.{statement}
 use Rattle.arrivals.proofs.plain.server_line.Tie as tie
 
@@ -41,7 +44,7 @@ module _ (c : tie.After-hold-run) where
   part = c .hold-run .last .1 .1 .0
 
   abbrev after : List ℕ
-  after = putMid 547 511 lent part
+  after = putMid lentReply mostHeld lent part
 
   first : AnsweredPlain octets i held owed (c .before .before .before .before .before .args .unfinished) lent
       (c .before .before .before .before .before .args .to-client .now) (c .before .before .before .before .before .args .at)
@@ -59,12 +62,12 @@ module _ (c : tie.After-hold-run) where
       let run = c .hold-run .ensures in
       reply-held octets i j held lent part (pre .1 .1) (run .0 .0) (run .0 .1) (run .0 .2) (run .1 .1) owed _ _ _ (pre .0 .1) (pre .1 .2) (pre .0 .2) (run .1 .0)
 
-  read : held ≡ 0 → take (j - i) (drop i octets) ≡ take (547 + (held + (j - i)) - 547) (drop 547 after)
+  read : held ≡ 0 → take (j - i) (drop i octets) ≡ take (lentReply + (held + (j - i)) - lentReply) (drop lentReply after)
   read =
       let run = c .hold-run .ensures in
       held-text octets i j held lent part (c .before .before .before .before .before .pre .1 .1) (run .0 .0) (run .0 .1) (run .0 .2) (run .1 .1)
 
-  all : length after ≡ 1058
+  all : length after ≡ lentSize
   all =
       let run = c .hold-run .ensures in
       held-size octets i j held lent part (c .before .before .before .before .before .pre .1 .1) (run .0 .0) (run .0 .1) (run .0 .2) (run .1 .1)
@@ -182,7 +185,7 @@ add-t42 : tie.Need-add-t42
 add-t42 c =
     let size = c .before .before .before .before .before .before .before .before .before .before .before .before .before .before .before .before .before .before .before .before .before .before .before .before .before .before .before .before .before .before .before .before .good .1 .1 .1 .0 in
     let more = c .before .before .before .before .before .before .before .before .before .before .before .before .before .before .before .before .before .before .before .before .before .before .before .before .may-end .ensures (c .before .before .before .before .before .before .before .before .before .before .before .before .before .before .before .before .before .before .before .before .before .before .before .if1 .taken) .0 in
-    search needs
+    record { fits = omega (arith, more, size) }
 
 sub-t37 : tie.Need-sub-t37
 sub-t37 c = few (c .before .before .before .before .before .before .before .before .before .before .before .before .before .before .before .before)
@@ -195,7 +198,7 @@ same-length c =
     let run = c .before .before .before .before .before .before .before .before .before .before .before .before .before .before .before .before .before .before .before .before .before .before .before .before .before .before .before .before in
     let size = kinds-size (after run) (all run) in
     let moved = c .before .before .before .shift .ensures ∙ shifted-in (kindsLent (after run)) _ _ (omega (arith, size, first run .owed)) in
-    put-size 20 16 (after run) (c .before .before .before .shift .last .0) (omega (arith, all run))
+    put-size lentKinds mostOwed (after run) (c .before .before .before .shift .last .0) (omega (arith, all run))
     (ap length moved ∙ (length-shifted (kindsLent (after run)) _ _ (omega (arith, size, first run .owed)) ∙ size))
     ∙ (all run ∙ sym (run .before .before .before .before .before .pre .1 .1))
 

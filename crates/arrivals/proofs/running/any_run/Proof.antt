@@ -15,6 +15,7 @@ use Rattle.arrivals.specs.Runs.{Ran}
 use Rattle.steps.proofs.Halves.{command-size, reply-lent, command-back, reply-back}
 use Rattle.arrivals.proofs.Parts.{ran-none}
 use borrow.Author.Needs.{needs}
+use Rattle.rules.specs.Lines.{mostHeld}
 use Rattle.arrivals.proofs.running.any_run.Statement.{statement}
 use Rattle.arrivals.proofs.running.any_run.Tie as tie
 
@@ -111,7 +112,7 @@ returns-3 c = λ f.
     let after = stateFrom (r .result .control) (commandIn lines) line (a .kinds) in
     subst (λ (s : State). Runs (sideIf (a .from-client)) (replyIn lines) s) (sym back)
     (subst (λ (before : List ℕ). Runs (sideIf (a .from-client)) before after) (reply-lent lines size)
-    (subst (λ (d : Side). Runs d (midOf 511 (length lines - 511) lines) after) (sym (ap sideIf (c .before .before .before .before .before .before .before .if2 .left)))
+    (subst (λ (d : Side). Runs d (midOf mostHeld (length lines - mostHeld) lines) after) (sym (ap sideIf (c .before .before .before .before .before .before .before .if2 .left)))
     (r .ensures f (commandIn lines) (a .to-server .now) (start .pre .0 .server))))
 
 pub any-run-spec : {M : Type 1} → statement M

@@ -7,6 +7,7 @@ use lib.Dec.{eqb}
 use lib.ListN.{length, drop, length-drop}
 use lib.Seq.{length-take-le}
 use borrow.Rule.Slice.PartMut.{same-len-mid}
+use Rattle.records.specs.Layout.{supportedAt, clientAt, lentSize}
 use Rattle.records.specs.declared.Session.{Session}
 use Rattle.session.specs.Calls.{arrived}
 use Rattle.session.proofs.Outcomes.{side-tested}
@@ -67,8 +68,8 @@ put-back-requires c κs =
     let I = a .image .now in
     let size = free-size I (a .direction) (start .pre) in
     let t = c .before .before .before .before .before .before .before .before .before .before .before .before .take in
-    let long : length (part I 35 1058) ≡ 1058 = length-take-le 1058 (drop 35 I) (omega (arith, length-drop 35 I)) in
-    let same = same-len-mid 35 1058 I (t .last .1 .1 .1 .1 .0) (t .kept .1 .1 .1 .1 .0) in
+    let long : length (part I clientAt lentSize) ≡ lentSize = length-take-le lentSize (drop clientAt I) (omega (arith, length-drop clientAt I)) in
+    let same = same-len-mid clientAt lentSize I (t .last .1 .1 .1 .1 .0) (t .kept .1 .1 .1 .1 .0) in
     (omega arith, t .ensures .1 .1 (free-counts I (a .direction) (start .pre) (c .before .before .before .before .before .before .before .before .before .before .before .before .before .before .before .before .before .before .before .before .control-in .ensures)))
 
 same-length : tie.Need-same-length
@@ -78,8 +79,8 @@ same-length c =
     let I = a .image .now in
     let size = free-size I (a .direction) (start .pre) in
     let t = c .before .before .before .before .before .before .before .before .before .before .before .before .before .before .before .take in
-    let long : length (part I 35 1058) ≡ 1058 = length-take-le 1058 (drop 35 I) (omega (arith, length-drop 35 I)) in
-    let same = same-len-mid 35 1058 I (t .last .1 .1 .1 .1 .0) (t .kept .1 .1 .1 .1 .0) in
+    let long : length (part I clientAt lentSize) ≡ lentSize = length-take-le lentSize (drop clientAt I) (omega (arith, length-drop clientAt I)) in
+    let same = same-len-mid clientAt lentSize I (t .last .1 .1 .1 .1 .0) (t .kept .1 .1 .1 .1 .0) in
     let kept = c .before .before .put-back .kept .0 in
     omega arith
 
@@ -108,8 +109,8 @@ returns c =
     let same = side-tested (a .direction) in
     let fields = free-fields I (a .direction) (start .pre) in
     let free = subst (λ (s : Session). refusalOf s (a .direction) ≡ none) (sym fields) (start .pre) in
-    let took = tookIn (isSet I 1) side (control .result) (lent I size) (a .octets .now) (length (a .to-server .now)) (length (a .to-client .now)) in
-    let all = lent-all I (a .octets .now) (a .to-server .now) (a .to-client .now) (a .direction) side same size free (isSet I 1) (control .result) refl (control .ensures) in
+    let took = tookIn (isSet I supportedAt) side (control .result) (lent I size) (a .octets .now) (length (a .to-server .now)) (length (a .to-client .now)) in
+    let all = lent-all I (a .octets .now) (a .to-server .now) (a .to-client .now) (a .direction) side same size free (isSet I supportedAt) (control .result) refl (control .ensures) in
     subst
     (λ (s : Session). Left (arrived s (a .direction) (a .octets .now) (length (a .to-server .now)) (length (a .to-client .now)))
     (record { answer = t .result .answer; taken = t .result .taken; written = t .result .written }) I (c .before .before .put-back .last .0)

@@ -5,6 +5,7 @@ use mathlib.Core.List.{List}
 use Prim.Native.Nat.{ℕ, _+_, _≤_}
 use native.Mathlib.Omega.{arith}
 use Rattle.rules.specs.Answers.{Side}
+use Rattle.records.specs.Layout.{imageSize}
 use Rattle.records.specs.Sound.{directionOf, sideIf}
 use Rattle.image.specs.Image.{controlIn}
 use Rattle.image.proofs.Again.{image-long}
@@ -44,7 +45,7 @@ returns c =
     (c .before .if1 .taken) (c .nothing-written .ensures)
 
 -- the held octets lie in the image
-within : (c : tie.After-line-at) → c .line-at .result + c .before .before .number-at .result ≤ 1093
+within : (c : tie.After-line-at) → c .line-at .result + c .before .before .number-at .result ≤ imageSize
 within c =
     let n = c .before .before in
     let low = held-low (image n) (side n) (start n .pre .1) (held-read n) in

@@ -1,0 +1,125 @@
+-- The record as octets: its fields in their order, each where the one before it ends. docs/RECORD.md tells what they hold.
+use Prim.Native.Nat.{ℕ, _+_, _-_}
+use Rattle.rules.specs.Lines.{mostHeld}
+use Rattle.rules.specs.Answers.{mostOwed}
+
+-- ---- how wide a field is
+
+-- a mark: yes or no, or a place
+abbrev pub markWidth : ℕ
+markWidth = 1
+
+-- a number of 32 bits
+abbrev pub numberWidth : ℕ
+numberWidth = 4
+
+-- "the client's IPv6 address (16 octets), its mapped IPv4 address (4 octets)"
+abbrev pub ipv6Width : ℕ
+ipv6Width = 16
+
+abbrev pub ipv4Width : ℕ
+ipv4Width = 4
+
+-- ---- where it begins: two marks that stay from the setup on
+
+abbrev pub liveAt : ℕ
+liveAt = 0
+
+abbrev pub supportedAt : ℕ
+supportedAt = liveAt + markWidth
+
+-- ---- the marks that calls can change
+
+abbrev pub epsvAt : ℕ
+epsvAt = supportedAt + markWidth
+
+abbrev pub eprtAt : ℕ
+eprtAt = epsvAt + markWidth
+
+abbrev pub unfinishedAt : ℕ
+unfinishedAt = eprtAt + markWidth
+
+abbrev pub clientPlaceAt : ℕ
+clientPlaceAt = unfinishedAt + markWidth
+
+abbrev pub serverPlaceAt : ℕ
+serverPlaceAt = clientPlaceAt + markWidth
+
+-- ---- the numbers
+
+abbrev pub owedAt : ℕ
+owedAt = serverPlaceAt + markWidth
+
+abbrev pub clientHeldAt : ℕ
+clientHeldAt = owedAt + numberWidth
+
+abbrev pub serverHeldAt : ℕ
+serverHeldAt = clientHeldAt + numberWidth
+
+abbrev pub upTakenAt : ℕ
+upTakenAt = serverHeldAt + numberWidth
+
+abbrev pub upWrittenAt : ℕ
+upWrittenAt = upTakenAt + numberWidth
+
+abbrev pub downTakenAt : ℕ
+downTakenAt = upWrittenAt + numberWidth
+
+abbrev pub downWrittenAt : ℕ
+downWrittenAt = downTakenAt + numberWidth
+
+-- ---- the arrays
+
+abbrev pub clientAt : ℕ
+clientAt = downWrittenAt + numberWidth
+
+abbrev pub mappedAt : ℕ
+mappedAt = clientAt + ipv6Width
+
+abbrev pub kindsAt : ℕ
+kindsAt = mappedAt + ipv4Width
+
+abbrev pub commandAt : ℕ
+commandAt = kindsAt + mostOwed
+
+abbrev pub replyAt : ℕ
+replyAt = commandAt + mostHeld
+
+abbrev pub imageSize : ℕ
+imageSize = replyAt + mostHeld
+
+-- ---- parts of several fields
+
+-- the marks that say yes or no, those that are places, and all of them
+abbrev pub bitsSize : ℕ
+bitsSize = clientPlaceAt - liveAt
+
+abbrev pub placesSize : ℕ
+placesSize = owedAt - clientPlaceAt
+
+abbrev pub marksSize : ℕ
+marksSize = owedAt - liveAt
+
+abbrev pub numbersSize : ℕ
+numbersSize = clientAt - owedAt
+
+-- the two lines
+abbrev pub linesSize : ℕ
+linesSize = imageSize - commandAt
+
+-- ---- the arrays by themselves, as an arrival is lent them, and where each begins there
+
+abbrev pub lentMapped : ℕ
+lentMapped = mappedAt - clientAt
+
+abbrev pub lentKinds : ℕ
+lentKinds = kindsAt - clientAt
+
+abbrev pub lentCommand : ℕ
+lentCommand = commandAt - clientAt
+
+abbrev pub lentReply : ℕ
+lentReply = replyAt - clientAt
+
+abbrev pub lentSize : ℕ
+lentSize = imageSize - clientAt

@@ -1,0 +1,67 @@
+// The record as octets: its fields in their order, each where the one before it ends (`Layout`, docs/RECORD.md).
+use rules::HELD;
+use rules::OWED;
+
+// How wide a mark, a number and the two addresses are.
+const MARK: usize = 1;
+
+pub const NUMBER: usize = 4;
+
+const IPV6: usize = 16;
+
+const IPV4: usize = 4;
+
+// Two marks that stay from the setup on.
+pub const LIVE: usize = 0;
+
+pub const SUPPORTED: usize = LIVE + MARK;
+
+// The marks that calls can change.
+pub const EPSV: usize = SUPPORTED + MARK;
+
+pub const EPRT: usize = EPSV + MARK;
+
+pub const UNFINISHED: usize = EPRT + MARK;
+
+pub const CLIENT_PLACE: usize = UNFINISHED + MARK;
+
+pub const SERVER_PLACE: usize = CLIENT_PLACE + MARK;
+
+// The numbers.
+pub const COUNT_OWED: usize = SERVER_PLACE + MARK;
+
+pub const CLIENT_HELD: usize = COUNT_OWED + NUMBER;
+
+pub const SERVER_HELD: usize = CLIENT_HELD + NUMBER;
+
+pub const UP_TAKEN: usize = SERVER_HELD + NUMBER;
+
+pub const UP_WRITTEN: usize = UP_TAKEN + NUMBER;
+
+pub const DOWN_TAKEN: usize = UP_WRITTEN + NUMBER;
+
+pub const DOWN_WRITTEN: usize = DOWN_TAKEN + NUMBER;
+
+// The arrays.
+pub const CLIENT: usize = DOWN_WRITTEN + NUMBER;
+
+pub const MAPPED: usize = CLIENT + IPV6;
+
+pub const KINDS: usize = MAPPED + IPV4;
+
+pub const COMMAND: usize = KINDS + OWED;
+
+pub const REPLY: usize = COMMAND + HELD;
+
+pub const SIZE: usize = REPLY + HELD;
+
+// The arrays by themselves, as an arrival is lent them, and where each begins there.
+pub const LENT_MAPPED: usize = MAPPED - CLIENT;
+
+pub const LENT_KINDS: usize = KINDS - CLIENT;
+
+pub const LENT_COMMAND: usize = COMMAND - CLIENT;
+
+pub const LENT_REPLY: usize = REPLY - CLIENT;
+
+pub const LENT_SIZE: usize = SIZE - CLIENT;
