@@ -35,7 +35,7 @@ unfolding parts run
 parts-last d [] h = refl
 parts-last d (x ∷ s) h = last-by d x s (run (isNot d) s) (eqb x d) (parts-last d s) h
 
--- the same from i on, where e is the place of the first d there
+-- the same from i on, where e is the position of the first d there
 module _ (d : ℕ) (s : List ℕ) (i e : ℕ) (at : e ≡ i + run (isNot d) (drop i s)) where
   pub part-at : e < length s → parts d (drop i s) ≡ take (e - i) (drop i s) ∷ parts d (drop (e + 1) s)
   part-at h =

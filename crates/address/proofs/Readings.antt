@@ -14,11 +14,11 @@ use Rattle.rules.specs.Octets.{choose}
 use Rattle.rules.specs.Address.{both}
 use Rattle.octets.proofs.Joining.{both-none, both-both}
 use Rattle.address.specs.declared.Reading.{Reading}
-use Rattle.address.specs.Text.{octetsOf, fits}
+use Rattle.address.specs.Text.{octetsOf, withinSixteen}
 
 -- a reading that is too long stays so
-long-by : (a : List ℕ) (o : Option (List ℕ)) (t : Bool) → leb (length a) 16 ≡ t → fits (both (choose t (some a) none) o) ≡ fits (both (some a) o)
-unfolding fits both choose
+long-by : (a : List ℕ) (o : Option (List ℕ)) (t : Bool) → leb (length a) 16 ≡ t → withinSixteen (both (choose t (some a) none) o) ≡ withinSixteen (both (some a) o)
+unfolding withinSixteen both choose
 long-by a o true e = refl
 long-by a none false e = refl
 long-by a (some b) false e =
@@ -26,44 +26,44 @@ long-by a (some b) false e =
     let l : 16 < length (a ++ b) = rw length-append (omega arith) in
     rw (lt-leb (length (a ++ b)) 16 l)
 
-fits-both : (a b : Option (List ℕ)) → fits (both (fits a) b) ≡ fits (both a b)
-unfolding fits
+fits-both : (a b : Option (List ℕ)) → withinSixteen (both (withinSixteen a) b) ≡ withinSixteen (both a b)
+unfolding withinSixteen
 fits-both none b = refl
 fits-both (some a) b = long-by a b (leb (length a) 16) refl
 
 -- a reading is r after it was h, and then g was read: what follows is read after r
-pub read-on : (h g r rest : Option (List ℕ)) → r ≡ fits (both h g) → fits (both h (both g rest)) ≡ fits (both r rest)
+pub read-on : (h g r rest : Option (List ℕ)) → r ≡ withinSixteen (both h g) → withinSixteen (both h (both g rest)) ≡ withinSixteen (both r rest)
 read-on h g r rest e = rw (e, fits-both (both h g) rest, both-both h g rest)
 
 -- what a refused reading is before is refused
-pub refused-before : (h : Reading) (o : Option (List ℕ)) → h .valid ≡ false → octetsOf h ≡ fits (both (octetsOf h) o)
-unfolding octetsOf fits both choose
+pub refused-before : (h : Reading) (o : Option (List ℕ)) → h .valid ≡ false → octetsOf h ≡ withinSixteen (both (octetsOf h) o)
+unfolding octetsOf withinSixteen both choose
 refused-before h o e = rw e
 
-pub refused-after : (h o : Option (List ℕ)) → o ≡ none → none ≡ fits (both h o)
-unfolding fits
+pub refused-after : (h o : Option (List ℕ)) → o ≡ none → none ≡ withinSixteen (both h o)
+unfolding withinSixteen
 refused-after h o e = rw (e, both-none h)
 
 -- one octet more
-full-by : (h : Reading) (x : ℕ) (v : Bool) → length (take (h .count) (h .octets)) ≡ 16 → none ≡ fits (both (choose v (some (take (h .count) (h .octets))) none) (some (x ∷ [])))
-unfolding fits both choose
+full-by : (h : Reading) (x : ℕ) (v : Bool) → length (take (h .count) (h .octets)) ≡ 16 → none ≡ withinSixteen (both (choose v (some (take (h .count) (h .octets))) none) (some (x ∷ [])))
+unfolding withinSixteen both choose
 full-by h x true e =
     let l : 16 < length (take (h .count) (h .octets) ++ (x ∷ [])) = rw length-append (omega arith) in
     rw (lt-leb _ 16 l)
 full-by h x false e = refl
 
 module _ (h : Reading) (x : ℕ) (size : length (h .octets) ≡ 16) where
-  pub octet-full : h .count ≤ 16 → 15 < h .count → none ≡ fits (both (octetsOf h) (some (x ∷ [])))
+  pub octet-full : h .count ≤ 16 → 15 < h .count → none ≡ withinSixteen (both (octetsOf h) (some (x ∷ [])))
   unfolding octetsOf
   octet-full a b = full-by h x (h .valid) (length-take-le (h .count) (h .octets) (omega arith) ∙ omega arith)
 
-  pub octet-put : h .valid ≡ true → h .count ≤ 15 → some (take (h .count + 1) (set (h .octets) (h .count) x)) ≡ fits (both (octetsOf h) (some (x ∷ [])))
-  unfolding octetsOf fits both choose
+  pub octet-put : h .valid ≡ true → h .count ≤ 15 → some (take (h .count + 1) (set (h .octets) (h .count) x)) ≡ withinSixteen (both (octetsOf h) (some (x ∷ [])))
+  unfolding octetsOf withinSixteen both choose
   octet-put v a =
       let short : length (take (h .count) (h .octets) ++ (x ∷ [])) ≤ 16 = simp (length-append, length-take-le (h .count) (h .octets) (omega arith)) (omega arith) in
       rw (v, le-leb _ 16 short, add-one, take-suc-set (h .octets) (h .count) x (omega arith))
 
 -- two octets more
-pub octets-put : (h a b g : Option (List ℕ)) (x y : ℕ) → g ≡ some (x ∷ y ∷ []) → a ≡ fits (both h (some (x ∷ []))) → b ≡ fits (both a (some (y ∷ []))) → b ≡ fits (both h g)
+pub octets-put : (h a b g : Option (List ℕ)) (x y : ℕ) → g ≡ some (x ∷ y ∷ []) → a ≡ withinSixteen (both h (some (x ∷ []))) → b ≡ withinSixteen (both a (some (y ∷ []))) → b ≡ withinSixteen (both h g)
 unfolding both
 octets-put h a b g x y two e f = f ∙ sym (read-on h (some (x ∷ [])) a (some (y ∷ [])) e) ∙ rw two

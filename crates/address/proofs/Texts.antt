@@ -10,7 +10,7 @@ use lib.ListN.{length, take, drop, length-drop}
 use lib.Seq.{take-all}
 use Rattle.rules.specs.Octets.{choose, isNot, run, colon, dot, parts}
 use Rattle.rules.specs.Address.{both, octetNumber, dotted, group, lastGroup, groups, half, halves, filled, eightGroups, ipv6From, ipv6}
-use Rattle.address.specs.Text.{fits, halvesAt}
+use Rattle.address.specs.Text.{withinSixteen, halvesAt}
 use Rattle.address.proofs.Parts.{part-at, part-end, parts-some}
 use Rattle.octets.proofs.Joining.{both-end}
 use Rattle.address.proofs.Readings.{read-on}
@@ -25,32 +25,32 @@ groups-more ends g [] h = absurd (omega arith)
 groups-more ends g (p ∷ ps) h = refl
 
 module _ (s : List ℕ) (i e : ℕ) (h r : Option (List ℕ)) where
-  pub dotted-on : e ≡ i + run (isNot dot) (drop i s) → e < length s → r ≡ fits (both h (octetNumber (take (e - i) (drop i s))))
-      → fits (both h (dotted (parts dot (drop i s)))) ≡ fits (both r (dotted (parts dot (drop (e + 1) s))))
+  pub dotted-on : e ≡ i + run (isNot dot) (drop i s) → e < length s → r ≡ withinSixteen (both h (octetNumber (take (e - i) (drop i s))))
+      → withinSixteen (both h (dotted (parts dot (drop i s)))) ≡ withinSixteen (both r (dotted (parts dot (drop (e + 1) s))))
   unfolding dotted
   dotted-on at found q =
       rw (part-at dot s i e at found) (read-on h (octetNumber (take (e - i) (drop i s))) r (dotted (parts dot (drop (e + 1) s))) q)
 
-  pub dotted-end : e ≡ i + run (isNot dot) (drop i s) → length s ≤ e → r ≡ fits (both h (octetNumber (take (length s - i) (drop i s))))
-      → r ≡ fits (both h (dotted (parts dot (drop i s))))
+  pub dotted-end : e ≡ i + run (isNot dot) (drop i s) → length s ≤ e → r ≡ withinSixteen (both h (octetNumber (take (length s - i) (drop i s))))
+      → r ≡ withinSixteen (both h (dotted (parts dot (drop i s))))
   unfolding dotted
   dotted-end at end q = q ∙ rw (part-end dot s i e at end, rest-part, both-end)
 
-  pub groups-on : (ends : Bool) → e ≡ i + run (isNot colon) (drop i s) → e < length s → r ≡ fits (both h (group (take (e - i) (drop i s))))
-      → fits (both h (groups ends (parts colon (drop i s)))) ≡ fits (both r (groups ends (parts colon (drop (e + 1) s))))
+  pub groups-on : (ends : Bool) → e ≡ i + run (isNot colon) (drop i s) → e < length s → r ≡ withinSixteen (both h (group (take (e - i) (drop i s))))
+      → withinSixteen (both h (groups ends (parts colon (drop i s)))) ≡ withinSixteen (both r (groups ends (parts colon (drop (e + 1) s))))
   groups-on ends at found q =
       rw (part-at colon s i e at found, groups-more ends (take (e - i) (drop i s)) (parts colon (drop (e + 1) s)) (parts-some colon (drop (e + 1) s)))
       (read-on h (group (take (e - i) (drop i s))) r (groups ends (parts colon (drop (e + 1) s))) q)
 
   pub groups-end : (ends : Bool) → e ≡ i + run (isNot colon) (drop i s) → length s ≤ e
-      → r ≡ fits (both h (choose ends (lastGroup (take (length s - i) (drop i s))) (group (take (length s - i) (drop i s)))))
-      → r ≡ fits (both h (groups ends (parts colon (drop i s))))
+      → r ≡ withinSixteen (both h (choose ends (lastGroup (take (length s - i) (drop i s))) (group (take (length s - i) (drop i s)))))
+      → r ≡ withinSixteen (both h (groups ends (parts colon (drop i s))))
   unfolding groups
   groups-end ends at end q = q ∙ rw (part-end colon s i e at end, rest-part)
 
 -- one side of `::`
-pub half-empty : (ends : Bool) (t : List ℕ) → length t ≡ 0 → some [] ≡ fits (half ends t)
-unfolding half fits choose
+pub half-empty : (ends : Bool) (t : List ℕ) → length t ≡ 0 → some [] ≡ withinSixteen (half ends t)
+unfolding half withinSixteen choose
 half-empty ends [] h = refl
 half-empty ends (x ∷ t) h = absurd (omega arith)
 

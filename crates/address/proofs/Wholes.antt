@@ -13,7 +13,7 @@ use lib.Seq.{length-take-le, take-all, take-at, drop-at, paste}
 use Rattle.rules.specs.Octets.{choose}
 use Rattle.rules.specs.Address.{eightGroups, filled}
 use Rattle.address.specs.declared.Reading.{Reading}
-use Rattle.address.specs.Text.{octetsOf, fits}
+use Rattle.address.specs.Text.{octetsOf, withinSixteen}
 
 -- a reading that is too long gives no address
 eight-by : (a : List ℕ) (t : Bool) → leb (length a) 16 ≡ t → eightGroups (choose t (some a) none) ≡ eightGroups (some a)
@@ -23,8 +23,8 @@ eight-by a false e =
     let h : 16 < length a = leb-false (length a) 16 e in
     rw (ne-eqb (length a) 16 (λ q. omega arith))
 
-pub eight-fits : (o : Option (List ℕ)) → eightGroups (fits o) ≡ eightGroups o
-unfolding fits
+pub eight-fits : (o : Option (List ℕ)) → eightGroups (withinSixteen o) ≡ eightGroups o
+unfolding withinSixteen
 eight-fits none = refl
 eight-fits (some a) = eight-by a (leb (length a) 16) refl
 
@@ -43,15 +43,15 @@ filled-right a b false e =
     let h : 16 < length b = leb-false (length b) 16 e in
     rw (lt-leb (length a + length b) 14 (omega arith))
 
-filled-after : (a : List ℕ) (o : Option (List ℕ)) → filled (some a) (fits o) ≡ filled (some a) o
-unfolding fits
+filled-after : (a : List ℕ) (o : Option (List ℕ)) → filled (some a) (withinSixteen o) ≡ filled (some a) o
+unfolding withinSixteen
 filled-after a none = refl
 filled-after a (some b) = filled-right a b (leb (length b) 16) refl
 
-pub filled-fits : (o q : Option (List ℕ)) → filled (fits o) (fits q) ≡ filled o q
-unfolding fits filled
+pub filled-fits : (o q : Option (List ℕ)) → filled (withinSixteen o) (withinSixteen q) ≡ filled o q
+unfolding withinSixteen filled
 filled-fits none q = refl
-filled-fits (some a) q = filled-left a (fits q) (leb (length a) 16) refl ∙ filled-after a q
+filled-fits (some a) q = filled-left a (withinSixteen q) (leb (length a) 16) refl ∙ filled-after a q
 
 -- eight groups, by what the reading holds
 module _ (h : Reading) where

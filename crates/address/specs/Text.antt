@@ -27,13 +27,13 @@ unfoldable pub octetsOf : Reading → Option (List ℕ)
 octetsOf h = choose (h .valid) (some (take (h .count) (h .octets))) none
 
 -- a reading of at most sixteen octets: a longer one is no part of an address
-unfoldable pub fits : Option (List ℕ) → Option (List ℕ)
-fits none = none
-fits (some a) = choose (leb (length a) 16) (some a) none
+unfoldable pub withinSixteen : Option (List ℕ) → Option (List ℕ)
+withinSixteen none = none
+withinSixteen (some a) = choose (leb (length a) 16) (some a) none
 
 -- r is a reading of what o says
 pub record Reads (r : Reading) (o : Option (List ℕ)) : Type 0 where
-  pub gives : octetsOf r ≡ fits o
+  pub gives : octetsOf r ≡ withinSixteen o
   pub room : r .count ≤ 16
 
 -- what stands before and after two octets at n, if n is in the text

@@ -249,7 +249,7 @@ fn eight_groups(read: Reading) -> Ipv6Read
 }
 
 // The first n octets of src put into dst from `at` on.
-fn placed(dst: [u8; 16], at: usize, src: [u8; 16], n: usize) -> [u8; 16]
+fn pasted(dst: [u8; 16], at: usize, src: [u8; 16], n: usize) -> [u8; 16]
     requires { ⌜ at + n ≤ 16 ⌝ }
     ensures { λ r. ⌜ r ≡ paste dst at src n ⌝ }
 {
@@ -280,7 +280,7 @@ fn filled(before: Reading, after: Reading) -> Ipv6Read
     }
     let head = before.octets;
     let tail = after.octets;
-    let octets = placed(placed([0u8; 16], 0, head, m), 16 - n, tail, n);
+    let octets = pasted(pasted([0u8; 16], 0, head, m), 16 - n, tail, n);
     Ipv6Read {
         valid: true,
         octets,

@@ -27,25 +27,25 @@ use Rattle.queue.proofs.Listed.{Listed, listed-push, listed-leave}
 use Rattle.steps.specs.declared.Fixed.{Fixed}
 use Rattle.records.specs.declared.Session.{Session}
 use Rattle.steps.specs.Steps.{State, owedThen, leaving, isAuthNext, settledState, clientState, clientEffectIn, clientStep, serverState, serverEffectIn, serverStep, octetStep}
-use Rattle.places.specs.Places.{isHolding, isPassing, passesFromNow}
+use Rattle.places.specs.Places.{isHolding, isPassing, directionFromNow}
 use Rattle.records.specs.Sound.{refusalOf}
 use Rattle.steps.specs.Settled.{Settled}
-use Rattle.session.specs.Calls.{stateOf, fixedOf, sessionAfter, Outcome, refused, unlessRefused, outcome, arrived, endStep, endOutcome, ended, freshSession}
+use Rattle.session.specs.Calls.{stateOf, fixedOf, sessionAfter, Outcome, refused, unlessRefused, outcome, arrived, endStep, endOutcome, endCalled, freshSession}
 use Rattle.session.specs.Bounds.{Shaped, WritesAtMost}
 use Rattle.steps.proofs.Octets.{length-stored}
 use Rattle.steps.proofs.Turns.{place-owed}
 use Rattle.steps.proofs.Quiet.{settled-then}
 use Rattle.answers.specs.Table.{
-  Call,
+  Situation,
   Result,
-  arrival,
-  ending,
+  ofArrival,
+  ofEnd,
   SoundDirection,
   Sound,
   Accepted,
   octetSteps,
   before,
-  next,
+  nextStep,
   Full,
   Takes,
   One,
@@ -103,7 +103,7 @@ reply-sound u o Place.Flowing n line false = record { direction = none-held _ }
 reply-sound u o Place.Passing n line b = record { direction = none-held _ }
 reply-sound u o Place.Ended n line b = record { direction = none-held _ }
 
-passes-sound : (d : Direction) (p : Place) → SoundDirection d → SoundDirection (passesFromNow d p)
+passes-sound : (d : Direction) (p : Place) → SoundDirection d → SoundDirection (directionFromNow d p)
 passes-sound d Place.Holding h = none-held _
 passes-sound d Place.Flowing h = none-held _
 passes-sound d Place.Passing h = none-held _
@@ -131,7 +131,7 @@ settled-kept s n h =
     record {
       queue = listed-leave (h .queue) (leaving s n);
       client = h .client;
-      server = either SoundDirection (isAuthNext s n) (passesFromNow d (d .place)) d (passes-sound d (d .place) (h .server)) (h .server);
+      server = either SoundDirection (isAuthNext s n) (directionFromNow d (d .place)) d (passes-sound d (d .place) (h .server)) (h .server);
       command = h .command;
       reply = h .reply;
     }
@@ -217,20 +217,20 @@ small s h =
       server = omega (arith, h .server .most, judged-most);
     }
 
-module _ (c : Call) (octets : List ℕ) (shape : Shaped (c .session)) where
+module _ (c : Situation) (octets : List ℕ) (shape : Shaped (c .session)) where
   kept-before : (k : ℕ) → k ≤ length octets → Takes c octets k → Kept (before c octets k .state)
   kept-before k h t =
       steps-kept (fixedOf (c .session)) (sideOf (c .direction)) (stateOf (c .session)) octets k h
       (kept (c .session) shape (t .accepted .sound)) (λ j l. queue-open c octets j (t .each j l .notFull))
 
   -- "One octet writes at most 512 octets to the server and at most 1,280 to the client": each one that an arrival comes to and 1 does not stop
-  pub each-octet : (k : ℕ) → k < length octets → Takes c octets k → (Full c octets k → ⊥) → WritesAtMost (next c octets k)
+  pub each-octet : (k : ℕ) → k < length octets → Takes c octets k → (Full c octets k → ⊥) → WritesAtMost (nextStep c octets k)
   each-octet k h t n =
       octet-most (fixedOf (c .session)) (shape .mapped) (shape .octets) (before c octets k .state) (getD octets k 0)
       (small (before c octets k .state) (kept-before k (omega arith) t)) (sideOf (c .direction)) (queue-open c octets k n)
 
   -- after each of them nothing is left to settle, so that a run can begin behind it
-  pub each-settled : (k : ℕ) → k < length octets → Takes c octets k → (Full c octets k → ⊥) → Settled (next c octets k .state)
+  pub each-settled : (k : ℕ) → k < length octets → Takes c octets k → (Full c octets k → ⊥) → Settled (nextStep c octets k .state)
   each-settled k h t n =
       octet-settles (fixedOf (c .session)) (sideOf (c .direction)) (before c octets k .state) (getD octets k 0) (kept-before k (omega arith) t)
       (queue-open c octets k n)
@@ -260,7 +260,7 @@ unfolding endStep
 end-kept client s h = record { queue = h .queue; client = none-held _; server = h .server; command = h .command; reply = h .reply }
 end-kept server s h = record { queue = h .queue; client = h .client; server = none-held _; command = h .command; reply = h .reply }
 
-module _ (c : Call) (shape : Shaped (c .session)) (w : Sound (c .session)) where
+module _ (c : Situation) (shape : Shaped (c .session)) (w : Sound (c .session)) where
   abbrev Stays : Outcome → Type 0
   Stays o = Shaped (o .called .session) × Sound (o .called .session)
 
@@ -290,10 +290,10 @@ module _ (c : Call) (shape : Shaped (c .session)) (w : Sound (c .session)) where
 
   -- a call on a record that number 4 lets through returns such a record
   pub calls-keep : (o : Outcome) → Result c o → Shaped (o .called .session) × Sound (o .called .session)
-  unfolding arrived ended outcome
-  calls-keep o (arrival octets) =
+  unfolding arrived endCalled outcome
+  calls-keep o (ofArrival octets) =
       unless-kept (result c octets) (λ a. session-kept (c .session) (sideOf (c .direction)) _ _ _ _ shape w (took-kept octets a))
-  calls-keep o ending = unless-kept (endResult c) (λ a. end-stays _)
+  calls-keep o ofEnd = unless-kept (endResult c) (λ a. end-stays _)
 
 sixteen : 1 ≤ mostOwed
 sixteen = lit≤ tt

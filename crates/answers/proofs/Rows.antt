@@ -15,13 +15,13 @@ use Rattle.rules.specs.declared.Answer.{Answer}
 use Rattle.records.specs.declared.Session.{Session}
 use Rattle.steps.specs.Steps.{State, Step}
 use Rattle.records.specs.Sound.{refusalOf}
-use Rattle.session.specs.Calls.{stateOf, fixedOf, sessionAfter, Outcome, refused, unlessRefused, outcome, arrived, endStep, endOutcome, ended}
+use Rattle.session.specs.Calls.{stateOf, fixedOf, sessionAfter, Outcome, refused, unlessRefused, outcome, arrived, endStep, endOutcome, endCalled}
 use Rattle.steps.specs.Takes.{Took, takes}
 use Rattle.answers.specs.Table.{
-  Call,
+  Situation,
   Result,
-  arrival,
-  ending,
+  ofArrival,
+  ofEnd,
   numberOf,
   Unknown,
   Known,
@@ -29,7 +29,7 @@ use Rattle.answers.specs.Table.{
   HasEnded,
   Accepted,
   Untouched,
-  GoesOn,
+  NotStopped,
   Takes,
   Zero,
   StopsAt,
@@ -92,7 +92,7 @@ untouched a s =
     record { taken = refl; writtenServer = refl; writtenClient = refl; toServer = refl; toClient = refl; session = refl }
 
 -- a call is refused, or its outcome has a number below 3
-pub data Unless (c : Call) : Outcome → Type 0 where
+pub data Unless (c : Situation) : Outcome → Type 0 where
   unless : (o : Outcome) → numberOf o < 3 → Unless c (unlessRefused (refusalOf (c .session) (c .direction)) (c .session) o)
 
 module _ (s : Session) (d : ℕ) (o : Outcome) (low : numberOf o < 3) where
@@ -132,7 +132,7 @@ module _ (s : Session) (d : ℕ) (o : Outcome) (low : numberOf o < 3) where
   untouched-words r (accepted k n e) h = absurd (omega arith)
 
 -- what is said of the outcome of an accepted call, in words that hold of accepted calls only
-pub unless-words : (c : Call) (o : Outcome) (P : Outcome → Type 0) (W : Type 0) → ((a : Answer) → 3 ≤ answerNumber a → P (refused a (c .session)) → ⊥)
+pub unless-words : (c : Situation) (o : Outcome) (P : Outcome → Type 0) (W : Type 0) → ((a : Answer) → 3 ≤ answerNumber a → P (refused a (c .session)) → ⊥)
     → (W → Accepted c) → (Accepted c → P o ↔ W) → P (unlessRefused (refusalOf (c .session) (c .direction)) (c .session) o) ↔ W
 unfolding unlessRefused answerNumber
 unless-words c o P W never needs words = by-refusal (refusalOf (c .session) (c .direction)) (refusal-of (c .session) (c .direction))
@@ -146,19 +146,19 @@ unless-words c o P W never needs words = by-refusal (refusalOf (c .session) (c .
     by-refusal r (accepted k n e) = words (record { known = k; sound = n; notEnded = e })
 
 -- nothing refuses an accepted call
-not-refused : (c : Call) → Accepted c → (r : Option Answer) → Refusal (c .session) (c .direction) r → r ≡ none
+not-refused : (c : Situation) → Accepted c → (r : Option Answer) → Refusal (c .session) (c .direction) r → r ≡ none
 not-refused c w r (unknown u) = absurd (both-ways (c .direction) u (w .known))
 not-refused c w r (bad k n) = absurd (n (w .sound))
 not-refused c w r (over k n e) = absurd (w .notEnded e)
 not-refused c w r (accepted k n e) = refl
 
-pub accepted-outcome : (c : Call) → Accepted c → (o : Outcome) → unlessRefused (refusalOf (c .session) (c .direction)) (c .session) o ≡ o
+pub accepted-outcome : (c : Situation) → Accepted c → (o : Outcome) → unlessRefused (refusalOf (c .session) (c .direction)) (c .session) o ≡ o
 unfolding unlessRefused
 accepted-outcome c w o = rw (not-refused c w (refusalOf (c .session) (c .direction)) (refusal-of (c .session) (c .direction)))
 
 -- ---- an arrival
 
-module _ (c : Call) (octets : List ℕ) where
+module _ (c : Situation) (octets : List ℕ) where
   abbrev pub took : Took
   took = takes (fixedOf (c .session)) (sideOf (c .direction)) (stateOf (c .session)) octets (c .serverRoom) (c .clientRoom)
 
@@ -171,7 +171,7 @@ module _ (c : Call) (octets : List ℕ) where
   abbrev pub ItsLast : Type 0
   ItsLast = Last (fixedOf (c .session)) (sideOf (c .direction)) (stateOf (c .session)) octets (c .serverRoom) (c .clientRoom) (took .taken) (took .answer)
 
-  goes-on : (j : ℕ) → (stopsAt c octets j ≡ none) ↔ GoesOn c octets j
+  goes-on : (j : ℕ) → (stopsAt c octets j ≡ none) ↔ NotStopped c octets j
   goes-on j =
       let w = stops-none (stop-words c octets j) in
       ((λ e. record { notFull = w .0 e .0; room = w .0 e .1 }), (λ g. w .1 (g .notFull, g .room)))
@@ -241,7 +241,7 @@ module _ (s : Session) (rs rc : ℕ) where
   abbrev heldFit : Side → Bool
   heldFit d = fits (atEnd d .toServer) (atEnd d .toClient) rs rc
 
-  abbrev endCall : ℕ → Call
+  abbrev endCall : ℕ → Situation
   endCall d = record { session = s; direction = d; serverRoom = rs; clientRoom = rc }
 
   exceed : (d : ℕ) → heldFit (sideOf d) ≡ false → HeldExceed (endCall d)
@@ -299,16 +299,16 @@ module _ (s : Session) (rs rc : ℕ) where
   end-untouched d false e = untouched Answer.NoRoom s
 
 -- what an accepted end gives
-abbrev pub endResult : Call → Outcome
+abbrev pub endResult : Situation → Outcome
 endResult c =
     let d = sideOf (c .direction) in
     endOutcome (c .session) d (endStep d (stateOf (c .session))) (heldFit (c .session) (c .serverRoom) (c .clientRoom) d)
 
 -- a call is refused by 3, 4 or 6, or its number is lower
-pub by-call : (c : Call) (o : Outcome) → Result c o → Unless c o
-unfolding arrived ended
-by-call c o (arrival octets) = unless (result c octets) (result-low c octets)
-by-call c o ending = unless (endResult c) (end-low (c .session) (c .serverRoom) (c .clientRoom) (sideOf (c .direction)) _)
+pub by-call : (c : Situation) (o : Outcome) → Result c o → Unless c o
+unfolding arrived endCalled
+by-call c o (ofArrival octets) = unless (result c octets) (result-low c octets)
+by-call c o ofEnd = unless (endResult c) (end-low (c .session) (c .serverRoom) (c .clientRoom) (sideOf (c .direction)) _)
 
 -- ---- setup
 

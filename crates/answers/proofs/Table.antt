@@ -12,9 +12,9 @@ use Rattle.rules.specs.Setup.{badFlags, setupAnswer}
 use Rattle.rules.specs.declared.Answer.{Answer}
 use Rattle.session.specs.declared.Prepared.{Prepared}
 use Rattle.steps.specs.Takes.{takes}
-use Rattle.session.specs.Calls.{Outcome, refused, unlessRefused, outcome, arrived, ended, freshSession, deadSession, prepared}
+use Rattle.session.specs.Calls.{Outcome, refused, unlessRefused, outcome, arrived, endCalled, freshSession, deadSession, prepared}
 use Rattle.answers.specs.Table.{
-  Call,
+  Situation,
   arrivedAt,
   endedAt,
   Result,
@@ -62,7 +62,7 @@ use Rattle.answers.proofs.Rows.{
   flags-words,
 }
 
-module _ (c : Call) where
+module _ (c : Situation) where
   -- what every refusal says of any outcome below 3 holds of arrivals and ends
   of-calls : (P : Outcome → Type 0)
       → ((r : Option Answer) (o : Outcome) → numberOf o < 3 → Refusal (c .session) (c .direction) r → P (unlessRefused r (c .session) o))
@@ -138,35 +138,35 @@ module _ (c : Call) where
 
   -- an end, 0: "done"
   pub end-zero : (numberOf (endedAt c) ≡ 0) ↔ (Accepted c × (HeldExceed c → ⊥))
-  unfolding ended refused
+  unfolding endCalled refused
   end-zero =
       unless-words c (endResult c) (λ o. numberOf o ≡ 0) (Accepted c × (HeldExceed c → ⊥)) (λ a h p. omega arith) (λ w. w .0)
       (λ w. end-zero-words (c .session) (c .serverRoom) (c .clientRoom) (c .direction) w _ refl)
 
   -- an end, 2: "at an end the held octets, exceeds the room left"
   pub end-two : (numberOf (endedAt c) ≡ 2) ↔ (Accepted c × HeldExceed c)
-  unfolding ended refused
+  unfolding endCalled refused
   end-two =
       unless-words c (endResult c) (λ o. numberOf o ≡ 2) (Accepted c × HeldExceed c) (λ a h p. omega arith) (λ w. w .0)
       (λ w. end-two-words (c .session) (c .serverRoom) (c .clientRoom) (c .direction) w _ refl)
 
   -- 1 speaks of an octet
   pub end-never-one : numberOf (endedAt c) ≢ 1
-  unfolding ended refused
+  unfolding endCalled refused
   end-never-one =
       unless-words c (endResult c) (λ o. numberOf o ≡ 1) ⊥ (λ a h p. omega arith) (λ w. absurd w)
       (λ w. (end-one-never (c .session) (c .serverRoom) (c .clientRoom) (sideOf (c .direction)) _, (λ w. absurd w))) .0
 
   -- "Ending a direction passes its held octets on unchanged and owes nothing for them"
   pub end-passes : numberOf (endedAt c) ≡ 0 → Ends c (endedAt c)
-  unfolding ended
+  unfolding endCalled
   end-passes e =
       let same = accepted-outcome c (end-zero .0 e .0) (endResult c) in
       rw same (ends (c .session) (c .serverRoom) (c .clientRoom) (c .direction) _ (rw same at e))
 
   -- "if they do not fit, answer 2 and nothing changes"
   pub end-two-untouched : numberOf (endedAt c) ≡ 2 → Untouched (c .session) (endedAt c)
-  unfolding ended
+  unfolding endCalled
   end-two-untouched e =
       let same = accepted-outcome c (end-two .0 e .0) (endResult c) in
       rw same (end-untouched (c .session) (c .serverRoom) (c .clientRoom) (sideOf (c .direction)) _ (rw same at e))

@@ -19,7 +19,7 @@ use Rattle.places.specs.Places.{isPassing}
 use Rattle.steps.specs.Takes.{Took, tookNothing, andThen, stopOf, takes}
 use Rattle.session.specs.Calls.{stateOf, fixedOf}
 use Rattle.steps.proofs.Stops.{fits-room, stop-cases, unless-stopped}
-use Rattle.answers.specs.Table.{Call, octetSteps, before, next, Full, Exceeds}
+use Rattle.answers.specs.Table.{Situation, octetSteps, before, nextStep, Full, Exceeds}
 
 -- ---- what stops an octet
 
@@ -155,10 +155,10 @@ module _ (f : Fixed) (d : Side) where
       unless-stopped (Taking f d s (x ∷ xs) rs rc) (stopOf d s t rs rc) s _ (λ a e. taking-nothing s x xs rs rc a e)
       (λ e. taking-more s x xs rs rc _ e (taking (t .state) xs (rs - length (t .toServer)) (rc - length (t .toClient))))
 
--- ---- where it stops is the first place where something stops it
+-- ---- where it stops is the first position where something stops it
 
 module _ {f : Fixed} {d : Side} {s : State} {xs : List ℕ} {rs rc : ℕ} {r : Took} (t : Taking f d s xs rs rc r) where
-  -- at a place with nothing before it, the arrival stops there or goes on beyond it
+  -- at a position with nothing before it, the arrival stops there or goes on beyond it
   at-least : (k : ℕ) → k ≤ length xs → ((j : ℕ) → j < k → stopAt f d s xs rs rc j ≡ none) → k ≤ r .taken
   at-least k h e = by-test (leb k (r .taken)) refl
     where
@@ -214,7 +214,7 @@ full-not zero p owed true e t z n m = n (passing p e)
 full-not zero p owed false e t z n m = omega (arith, leb-false mostOwed owed t)
 full-not (suc d) p owed b e t z n m = omega arith
 
-module _ (c : Call) (octets : List ℕ) where
+module _ (c : Situation) (octets : List ℕ) where
   abbrev pub stopsAt : ℕ → Option Answer
   stopsAt k = stopAt (fixedOf (c .session)) (sideOf (c .direction)) (stateOf (c .session)) octets (c .serverRoom) (c .clientRoom) k
 
@@ -222,7 +222,7 @@ module _ (c : Call) (octets : List ℕ) where
   unfolding stopOf
   stop-words k =
       let b : Step = before c octets k in
-      let n : Step = next c octets k in
+      let n : Step = nextStep c octets k in
       let p : Place = b .state .control .client .place in
       let owed : ℕ = b .state .control .owed in
       let rs : ℕ = c .serverRoom - length (b .toServer) in

@@ -14,27 +14,27 @@ use Rattle.steps.specs.declared.Fixed.{Fixed}
 use Rattle.records.specs.declared.Session.{Session}
 use Rattle.steps.specs.Steps.{State, Step, octetStep}
 use Rattle.records.specs.Sound.{directionOf}
-use Rattle.session.specs.Calls.{stateOf, fixedOf, sessionAfter, Outcome, arrived, ended, endStep}
+use Rattle.session.specs.Calls.{stateOf, fixedOf, sessionAfter, Outcome, arrived, endCalled, endStep}
 
 -- ---- calls
 
 -- a record, a direction, and the room in each buffer: octets arrive there, or the direction ends
-pub record Call : Type 0 where
+pub record Situation : Type 0 where
   pub session : Session
   pub direction : ℕ
   pub serverRoom : ℕ
   pub clientRoom : ℕ
 
-abbrev pub arrivedAt : Call → List ℕ → Outcome
+abbrev pub arrivedAt : Situation → List ℕ → Outcome
 arrivedAt c octets = arrived (c .session) (c .direction) octets (c .serverRoom) (c .clientRoom)
 
-abbrev pub endedAt : Call → Outcome
-endedAt c = ended (c .session) (c .direction) (c .serverRoom) (c .clientRoom)
+abbrev pub endedAt : Situation → Outcome
+endedAt c = endCalled (c .session) (c .direction) (c .serverRoom) (c .clientRoom)
 
 -- what an arrival or an end gives
-pub data Result (c : Call) : Outcome → Type 0 where
-  arrival : (octets : List ℕ) → Result c (arrivedAt c octets)
-  ending : Result c (endedAt c)
+pub data Result (c : Situation) : Outcome → Type 0 where
+  ofArrival : (octets : List ℕ) → Result c (arrivedAt c octets)
+  ofEnd : Result c (endedAt c)
 
 -- the table's first column
 abbrev pub numberOf : Outcome → ℕ
@@ -67,7 +67,7 @@ abbrev pub HasEnded : Session → ℕ → Type 0
 HasEnded s d = directionOf (sideOf d) (s .control) .place ≡ Place.Ended
 
 -- "Order: 3, 4, 6": none of them
-pub record Accepted (c : Call) : Type 0 where
+pub record Accepted (c : Situation) : Type 0 where
   pub known : Known (c .direction)
   pub sound : Sound (c .session)
   pub notEnded : HasEnded (c .session) (c .direction) → ⊥
@@ -91,14 +91,14 @@ octetSteps f d s (x ∷ xs) =
     let r = octetSteps f d (t .state) xs in
     record { state = r .state; toServer = t .toServer ++ r .toServer; toClient = t .toClient ++ r .toClient }
 
-module _ (c : Call) (octets : List ℕ) where
+module _ (c : Situation) (octets : List ℕ) where
   -- what the first k octets make
   abbrev pub before : ℕ → Step
   before k = octetSteps (fixedOf (c .session)) (sideOf (c .direction)) (stateOf (c .session)) (take k octets)
 
   -- what the next one makes then
-  abbrev pub next : ℕ → Step
-  next k = octetStep (fixedOf (c .session)) (sideOf (c .direction)) (before k .state) (getD octets k 0)
+  abbrev pub nextStep : ℕ → Step
+  nextStep k = octetStep (fixedOf (c .session)) (sideOf (c .direction)) (before k .state) (getD octets k 0)
 
   -- 1: "next octet is the client's, no AUTH yet, 16 replies owed"; after AUTH the client's octets pass at once
   pub record Full (k : ℕ) : Type 0 where
@@ -109,18 +109,18 @@ module _ (c : Call) (octets : List ℕ) where
   -- 2: "next octet's output .. exceeds the room left in either buffer"
   abbrev pub Exceeds : ℕ → Type 0
   Exceeds k =
-      (c .serverRoom - length (before k .toServer) < length (next k .toServer))
-      ⊎ (c .clientRoom - length (before k .toClient) < length (next k .toClient))
+      (c .serverRoom - length (before k .toServer) < length (nextStep k .toServer))
+      ⊎ (c .clientRoom - length (before k .toClient) < length (nextStep k .toClient))
 
   -- neither is so before octet k
-  pub record GoesOn (k : ℕ) : Type 0 where
+  pub record NotStopped (k : ℕ) : Type 0 where
     pub notFull : Full k → ⊥
     pub room : Exceeds k → ⊥
 
   -- "Taken: those before it": the first k octets are taken
   pub record Takes (k : ℕ) : Type 0 where
     pub accepted : Accepted c
-    pub each : (j : ℕ) → j < k → GoesOn j
+    pub each : (j : ℕ) → j < k → NotStopped j
 
   -- 0: "all octets taken"
   pub record Zero (k : ℕ) : Type 0 where
@@ -155,12 +155,12 @@ abbrev pub heldOctets : Side → Session → List ℕ
 heldOctets client s = take (s .control .client .held) (s .command)
 heldOctets server s = take (s .control .server .held) (s .reply)
 
-abbrev pub roomFor : Side → Call → ℕ
+abbrev pub roomFor : Side → Situation → ℕ
 roomFor client c = c .serverRoom
 roomFor server c = c .clientRoom
 
 -- 2: "at an end the held octets, exceeds the room left"
-abbrev pub HeldExceed : Call → Type 0
+abbrev pub HeldExceed : Situation → Type 0
 HeldExceed c = roomFor (sideOf (c .direction)) c < length (heldOctets (sideOf (c .direction)) (c .session))
 
 -- what goes to the side that a direction leads to, and to the one that it comes from
@@ -173,7 +173,7 @@ back client o = o .toClient
 back server o = o .toServer
 
 -- "Ending a direction passes its held octets on unchanged and owes nothing for them"
-pub record Ends (c : Call) (o : Outcome) : Type 0 where
+pub record Ends (c : Situation) (o : Outcome) : Type 0 where
   pub passed : onward (sideOf (c .direction)) o ≡ heldOctets (sideOf (c .direction)) (c .session)
   pub nothing : back (sideOf (c .direction)) o ≡ []
   pub taken : o .called .taken ≡ 0

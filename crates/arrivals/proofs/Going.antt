@@ -12,7 +12,7 @@ use Rattle.rules.specs.Octets.{choose}
 use Rattle.rules.specs.Answers.{Side, client, server, isQueueFull, fits, stop, answerNumber}
 use Rattle.rules.specs.declared.Answer.{Answer}
 use Rattle.records.specs.Layout.{lentSize}
-use Rattle.output.specs.Buffer.{placed}
+use Rattle.output.specs.Buffer.{putAt}
 use Rattle.records.specs.declared.Control.{Control}
 use Rattle.steps.specs.declared.Fixed.{Fixed}
 use Rattle.steps.specs.declared.Written.{Written}
@@ -22,7 +22,7 @@ use Rattle.records.specs.Sound.{holdable, Counted}
 use Rattle.steps.specs.Takes.{Took, tookNothing, andThen, unlessStopped, stopOf, takes, tookIn, Core, Given, fixedLent, stateLent, coreFrom, coreTook, tookNext}
 use Rattle.steps.specs.Core.{Bounded, stepFits, octetFits, octetCore}
 use Rattle.arrivals.specs.Runs.{prefixed}
-use Rattle.output.proofs.Placing.{placed-fits, length-placed, take-placed, drop-placed, nothing-placed}
+use Rattle.output.proofs.Placing.{put-fits, length-put, take-put-at, drop-put, nothing-put}
 use Rattle.steps.proofs.Stops.{fits-room}
 use Rattle.steps.proofs.Octets.{core-same, core-next}
 use Rattle.steps.proofs.Nexts.{Answered, next-full, next-unfit, next-fits}
@@ -87,23 +87,23 @@ pub record Going (f : Fixed) (d : Side) (l : List ℕ) (s₀ : State) (from to :
 abbrev pub Stopped : Fixed → Side → List ℕ → State → List ℕ → List ℕ → Answer → ℕ → Core → Type 0
 Stopped f d l s₀ from to = Given (takes f d s₀ l (length from) (length to)) from to
 
--- a buffer whose first n octets are written, as those octets placed in what it was
-placed-front : (out from : List ℕ) (n : ℕ) → n ≤ length out → length out ≡ length from → drop n out ≡ drop n from → placed from 0 (take n out ++ []) ≡ out
-placed-front out from n h size rest =
+-- a buffer whose first n octets are written, as those octets put in what it was
+put-at-front : (out from : List ℕ) (n : ℕ) → n ≤ length out → length out ≡ length from → drop n out ≡ drop n from → putAt from 0 (take n out ++ []) ≡ out
+put-at-front out from n h size rest =
     let long : 0 + length (take n out) ≡ n = omega (arith, length-take-le n out h) in
-    ap (placed from 0) (append-nil (take n out))
-    ∙ (placed-fits from 0 (take n out) (omega arith)
+    ap (putAt from 0) (append-nil (take n out))
+    ∙ (put-fits from 0 (take n out) (omega arith)
     ∙ ((λ i. take n out ++ drop (long i) from) ∙ (ap (λ (r : List ℕ). take n out ++ r) (sym rest) ∙ take-append-drop n out)))
 
 front-size : (out : List ℕ) (n : ℕ) → n ≤ length out → n ≡ length (take n out ++ [])
 front-size out n h = sym (length-take-le n out h) ∙ sym (ap length (append-nil (take n out)))
 
--- what stands behind a text just placed
-pub placed-rest : (out from : List ℕ) (at : ℕ) (t : List ℕ) → at + length t ≤ length out → drop at out ≡ drop at from → drop (at + length t) (placed out at t) ≡ drop (at + length t) from
-placed-rest out from at t h rest =
+-- what stands behind a text just put
+pub put-at-rest : (out from : List ℕ) (at : ℕ) (t : List ℕ) → at + length t ≤ length out → drop at out ≡ drop at from → drop (at + length t) (putAt out at t) ≡ drop (at + length t) from
+put-at-rest out from at t h rest =
     let same : at + length t + 0 ≡ at + length t = omega arith in
-    sym (ap (λ (n : ℕ). drop n (placed out at t)) same)
-    ∙ (drop-placed out at t 0 h
+    sym (ap (λ (n : ℕ). drop n (putAt out at t)) same)
+    ∙ (drop-put out at t 0 h
     ∙ (ap (λ (n : ℕ). drop n out) same
     ∙ (sym (drop-drop (length t) at out) ∙ (ap (drop (length t)) rest ∙ drop-drop (length t) at from))))
 
@@ -127,8 +127,8 @@ module _ (f : Fixed) (d : Side) (l : List ℕ) (s₀ : State) (from to : List �
     unfolding coreTook
     stopped-with answer nothing =
         let r : takes f d s₀ l (length from) (length to) ≡ prefixed i (take (w .server) (k .serverBuffer)) (take (w .client) (k .clientBuffer)) (tookNothing answer (k .state)) = going .so-far ∙ ap (prefixed i (take (w .server) (k .serverBuffer)) (take (w .client) (k .clientBuffer))) nothing in
-        let server = placed-front (k .serverBuffer) from (w .server) (going .bounded .server) (going .server-size) (going .server-rest) in
-        let client = placed-front (k .clientBuffer) to (w .client) (going .bounded .client) (going .client-size) (going .client-rest) in
+        let server = put-at-front (k .serverBuffer) from (w .server) (going .bounded .server) (going .server-size) (going .server-rest) in
+        let client = put-at-front (k .clientBuffer) to (w .client) (going .bounded .client) (going .client-size) (going .client-rest) in
         let m = front-size (k .serverBuffer) (w .server) (going .bounded .server) in
         let n = front-size (k .clientBuffer) (w .client) (going .bounded .client) in
         let count : i ≡ i + 0 = omega arith in (
@@ -175,18 +175,18 @@ module _ (f : Fixed) (d : Side) (l : List ℕ) (s₀ : State) (from to : List �
             let second : w .client + length (t .toClient) ≤ length (k .clientBuffer) = omega arith in
             let m : length from - w .server - length (t .toServer) ≡ length from - (w .server + length (t .toServer)) = omega arith in
             let n : length to - w .client - length (t .toClient) ≡ length to - (w .client + length (t .toClient)) = omega arith in
-            let a = take-placed (k .serverBuffer) (w .server) (t .toServer) first in
-            let b = take-placed (k .clientBuffer) (w .client) (t .toClient) second in
+            let a = take-put-at (k .serverBuffer) (w .server) (t .toServer) first in
+            let b = take-put-at (k .clientBuffer) (w .client) (t .toClient) second in
             subst (λ (c : Core). Going f d l s₀ from to c (i + 1)) (next ∙ sym after)
             (record {
               so-far = going .so-far
                   ∙ (ap (prefixed i (take (w .server) (k .serverBuffer)) (take (w .client) (k .clientBuffer))) more
                   ∙ (prefixed-more i (take (w .server) (k .serverBuffer)) (take (w .client) (k .clientBuffer)) t (takes f d (t .state) (drop (i + 1) l) (length from - w .server - length (t .toServer)) (length to - w .client - length (t .toClient)))
                   ∙ (λ j. prefixed (i + 1) (sym a j) (sym b j) (takes f d (t .state) (drop (i + 1) l) (m j) (n j)))));
-              server-rest = placed-rest (k .serverBuffer) from (w .server) (t .toServer) first (going .server-rest);
-              client-rest = placed-rest (k .clientBuffer) to (w .client) (t .toClient) second (going .client-rest);
-              server-size = length-placed (k .serverBuffer) (w .server) (t .toServer) first ∙ going .server-size;
-              client-size = length-placed (k .clientBuffer) (w .client) (t .toClient) second ∙ going .client-size;
+              server-rest = put-at-rest (k .serverBuffer) from (w .server) (t .toServer) first (going .server-rest);
+              client-rest = put-at-rest (k .clientBuffer) to (w .client) (t .toClient) second (going .client-rest);
+              server-size = length-put (k .serverBuffer) (w .server) (t .toServer) first ∙ going .server-size;
+              client-size = length-put (k .clientBuffer) (w .client) (t .toClient) second ∙ going .client-size;
               bounded = subst (λ (c : Core). Bounded (c .state .control) (c .written) (c .serverBuffer) (c .clientBuffer)) (after ∙ sym next) bounded;
             })
 
@@ -234,8 +234,8 @@ module _ (f : Fixed) (d : Side) (l : List ℕ) (s₀ : State) (from to : List �
       let client = going .bounded .client in
       let ws = ap (λ (c : Core). c .written .server) core in
       let wc = ap (λ (c : Core). c .written .client) core in
-      let ls = ap (λ (c : Core). length (c .serverBuffer)) core ∙ length-placed (k .serverBuffer) (w .server) (t .toServer) (omega arith) in
-      let lc = ap (λ (c : Core). length (c .clientBuffer)) core ∙ length-placed (k .clientBuffer) (w .client) (t .toClient) (omega arith) in
+      let ls = ap (λ (c : Core). length (c .serverBuffer)) core ∙ length-put (k .serverBuffer) (w .server) (t .toServer) (omega arith) in
+      let lc = ap (λ (c : Core). length (c .clientBuffer)) core ∙ length-put (k .clientBuffer) (w .client) (t .toClient) (omega arith) in
       record { owed = counts .owed; command = counts .command; reply = counts .reply; server = omega arith; client = omega arith }
 
   goes-by : (full fit : Bool) → queue ≡ full → octetFits f d x k ≡ fit → answerNumber a ≡ 0 → Counted (m .state .control) → Going f d l s₀ from to m (i + 1)
@@ -266,8 +266,8 @@ module _ (supported : Bool) (d : Side) (c : Control) (lent l : List ℕ) where
       → Given r from to Answer.BadRecord 0 (coreFrom s from to (record { server = 0; client = 0 }))
   unfolding coreTook
   took-nothing from to r e =
-      let server = nothing-placed from 0 .1 in
-      let client = nothing-placed to 0 .1 in
+      let server = nothing-put from 0 .1 in
+      let client = nothing-put to 0 .1 in
       rw e ((refl, refl), λ i. record { state = s; serverBuffer = server i; clientBuffer = client i; written = record { server = 0; client = 0 } })
 
   -- what the function returns where the counts, or the number of octets lent, can't be

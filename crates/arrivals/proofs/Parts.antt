@@ -1,4 +1,4 @@
--- Runs at a place of an arrival, as the code has them: each leads the loop from the state before it to that behind it.
+-- Runs at a position of an arrival, as the code has them: each leads the loop from the state before it to that behind it.
 use mathlib.Core.Path.{_≡_, refl, sym, ap, subst, _∙_}
 use mathlib.Core.Bool.{true}
 use mathlib.Core.List.{List, [], _∷_, _++_, append-assoc}
@@ -12,8 +12,8 @@ use Rattle.rules.specs.Octets.{lf, every, isNot, run, front}
 use Rattle.rules.specs.Lines.{judged, mostHeld}
 use Rattle.rules.specs.Answers.{Side, client, server, isQueueFull}
 use Rattle.octets.proofs.Runs.{run-length, every-front, part-rest, part-length}
-use Rattle.output.specs.Buffer.{placed, placeAfter}
-use Rattle.output.proofs.Placing.{length-placed, take-placed, after-fits, nothing-placed, placed-after}
+use Rattle.output.specs.Buffer.{putAt, positionAfter}
+use Rattle.output.proofs.Placing.{length-put, take-put-at, after-fits, nothing-put, put-after}
 use Rattle.places.specs.declared.Place.{Place}
 use Rattle.places.specs.Places.{at}
 use Rattle.steps.specs.declared.Fixed.{Fixed}
@@ -24,7 +24,7 @@ use Rattle.steps.specs.Takes.{takes, Core, coreFrom}
 use Rattle.steps.specs.Core.{Bounded, Stepped, stepFits, octetFits}
 use Rattle.steps.specs.Settled.{Settled}
 use Rattle.arrivals.specs.Runs.{prefixed, holding, holdsMore, Ran}
-use Rattle.arrivals.proofs.Going.{Going, placed-rest}
+use Rattle.arrivals.proofs.Going.{Going, put-at-rest}
 use Rattle.steps.proofs.Stops.{fits-room}
 use Rattle.steps.proofs.Octets.{core-next}
 use Rattle.arrivals.proofs.Runs.{Open, one-taken, passes-run, flows-run, holds-run}
@@ -48,15 +48,15 @@ module _ (f : Fixed) (d : Side) (l : List ℕ) (s₀ : State) (from to : List �
       let rest = ran .rest M N (omega arith) (omega arith) in
       let m : M - length a ≡ length from - (w .server + length a) = omega arith in
       let n : N - length b ≡ length to - (w .client + length b) = omega arith in
-      let pa = take-placed (k .serverBuffer) (w .server) a fs in
-      let pb = take-placed (k .clientBuffer) (w .client) b fc in
+      let pa = take-put-at (k .serverBuffer) (w .server) a fs in
+      let pb = take-put-at (k .clientBuffer) (w .client) b fc in
       let r = takes f d (k′ .state) (drop j l) (length from - (w .server + length a))
       (length to - (w .client + length b)) in
       let over = ran .forward in
       let count : i + (j - i + r .taken) ≡ j + r .taken = omega arith in
       let counts = ran .counted (record { owed = going .bounded .owed; command = going .bounded .command; reply = going .bounded .reply }) in
-      let ls = length-placed (k .serverBuffer) (w .server) a fs in
-      let lc = length-placed (k .clientBuffer) (w .client) b fc in
+      let ls = length-put (k .serverBuffer) (w .server) a fs in
+      let lc = length-put (k .clientBuffer) (w .client) b fc in
       subst (λ (c : Core). Going f d l s₀ from to c j) (sym (ran .core))
       (record {
         so-far = going .so-far
@@ -69,8 +69,8 @@ module _ (f : Fixed) (d : Side) (l : List ℕ) (s₀ : State) (from to : List �
               state = r .state;
             })
             ∙ (λ t. prefixed j (sym pa t) (sym pb t) r));
-        server-rest = placed-rest (k .serverBuffer) from (w .server) a fs (going .server-rest);
-        client-rest = placed-rest (k .clientBuffer) to (w .client) b fc (going .client-rest);
+        server-rest = put-at-rest (k .serverBuffer) from (w .server) a fs (going .server-rest);
+        client-rest = put-at-rest (k .clientBuffer) to (w .client) b fc (going .client-rest);
         server-size = ls ∙ ss;
         client-size = lc ∙ sc;
         bounded = record { owed = counts .owed; command = counts .command; reply = counts .reply; server = omega arith; client = omega arith };
@@ -84,8 +84,8 @@ pub ran-none : (f : Fixed) (d : Side) (l : List ℕ) (k : Core) (i : ℕ) → i 
     → k .written .client ≤ length (k .clientBuffer) → Ran f d l k i k i
 ran-none f d l k i h a b =
     let w = k .written in
-    let sb = nothing-placed (k .serverBuffer) (w .server) .1 in
-    let cb = nothing-placed (k .clientBuffer) (w .client) .1 in
+    let sb = nothing-put (k .serverBuffer) (w .server) .1 in
+    let cb = nothing-put (k .clientBuffer) (w .client) .1 in
     let ws : w .server ≡ w .server + 0 = omega arith in
     let wc : w .client ≡ w .client + 0 = omega arith in
     record {
@@ -115,8 +115,8 @@ ran-bounded f d l k k′ i j ran bounded =
     let fc = ran .client in
     let ws = ap (λ (c : Core). c .written .server) (ran .core) in
     let wc = ap (λ (c : Core). c .written .client) (ran .core) in
-    let ls = ap (λ (c : Core). length (c .serverBuffer)) (ran .core) ∙ length-placed (k .serverBuffer) (w .server) (ran .toServer) fs in
-    let lc = ap (λ (c : Core). length (c .clientBuffer)) (ran .core) ∙ length-placed (k .clientBuffer) (w .client) (ran .toClient) fc in
+    let ls = ap (λ (c : Core). length (c .serverBuffer)) (ran .core) ∙ length-put (k .serverBuffer) (w .server) (ran .toServer) fs in
+    let lc = ap (λ (c : Core). length (c .clientBuffer)) (ran .core) ∙ length-put (k .clientBuffer) (w .client) (ran .toClient) fc in
     record { owed = counts .owed; command = counts .command; reply = counts .reply; server = omega arith; client = omega arith }
 
 -- one octet that fits, where number 1 is not given
@@ -147,7 +147,7 @@ ran-octet f d l k k′ i x h e queue a b stepped =
           ∙ (one-taken f d (k .state) x (drop (i + 1) l) m n t refl queue hm hn
           ∙ ((λ j. record { answer = r .answer; taken = sym (one-more i (r .taken)) j; toServer = t .toServer ++ r .toServer; toClient = t .toClient ++ r .toClient; state = r .state })
           ∙ (λ j. prefixed (i + 1 - i) (t .toServer) (t .toClient) (takes f d (sym (ap (λ (c : Core). c .state) after) j) (drop (i + 1) l) (m - length (t .toServer)) (n - length (t .toClient)))))));
-      core = after ∙ (λ j. coreFrom (sym (ap (λ (c : Core). c .state) after) j) (placed (k .serverBuffer) (w .server) (t .toServer)) (placed (k .clientBuffer) (w .client) (t .toClient)) (record { server = w .server + length (t .toServer); client = w .client + length (t .toClient) }));
+      core = after ∙ (λ j. coreFrom (sym (ap (λ (c : Core). c .state) after) j) (putAt (k .serverBuffer) (w .server) (t .toServer)) (putAt (k .clientBuffer) (w .client) (t .toClient)) (record { server = w .server + length (t .toServer); client = w .client + length (t .toClient) }));
       counted = λ _. record { owed = stepped .bounded .owed; command = stepped .bounded .command; reply = stepped .bounded .reply };
     }
   where
@@ -169,18 +169,18 @@ module _ (f : Fixed) (d : Side) (l : List ℕ) (k k′ k″ : Core) (i j e : ℕ
       let second = q .forward in
       let ls = length-append a a′ in
       let lc = length-append b b′ in
-      let ss : k′ .serverBuffer ≡ placed (k .serverBuffer) (w .server) a = ap (λ (c : Core). c .serverBuffer) (r .core) in
-      let sc : k′ .clientBuffer ≡ placed (k .clientBuffer) (w .client) b = ap (λ (c : Core). c .clientBuffer) (r .core) in
+      let ss : k′ .serverBuffer ≡ putAt (k .serverBuffer) (w .server) a = ap (λ (c : Core). c .serverBuffer) (r .core) in
+      let sc : k′ .clientBuffer ≡ putAt (k .clientBuffer) (w .client) b = ap (λ (c : Core). c .clientBuffer) (r .core) in
       let ws : k′ .written .server ≡ w .server + length a = ap (λ (c : Core). c .written .server) (r .core) in
       let wc : k′ .written .client ≡ w .client + length b = ap (λ (c : Core). c .written .client) (r .core) in
-      let ns = ap length ss ∙ length-placed (k .serverBuffer) (w .server) a fs in
-      let nc = ap length sc ∙ length-placed (k .clientBuffer) (w .client) b fc in
+      let ns = ap length ss ∙ length-put (k .serverBuffer) (w .server) a fs in
+      let nc = ap length sc ∙ length-put (k .clientBuffer) (w .client) b fc in
       let qs = q .server in
       let qc = q .client in
       let rs : w .server + length (a ++ a′) ≤ length (k .serverBuffer) = omega arith in
       let rc : w .client + length (b ++ b′) ≤ length (k .clientBuffer) = omega arith in
-      let ps = (λ t. placed (ss t) (ws t) a′) ∙ placed-after (k .serverBuffer) (w .server) a a′ rs in
-      let pc = (λ t. placed (sc t) (wc t) b′) ∙ placed-after (k .clientBuffer) (w .client) b b′ rc in
+      let ps = (λ t. putAt (ss t) (ws t) a′) ∙ put-after (k .serverBuffer) (w .server) a a′ rs in
+      let pc = (λ t. putAt (sc t) (wc t) b′) ∙ put-after (k .clientBuffer) (w .client) b b′ rc in
       let us : k′ .written .server + length a′ ≡ w .server + length (a ++ a′) = omega arith in
       let uc : k′ .written .client + length b′ ≡ w .client + length (b ++ b′) = omega arith in
       record {
@@ -209,7 +209,7 @@ module _ (f : Fixed) (d : Side) (l : List ℕ) (k k′ k″ : Core) (i j e : ℕ
         counted = λ c. q .counted (r .counted c);
       }
 
--- octets that the client gives on, or the server: out is the buffer then, and next the place behind them
+-- octets that the client gives on, or the server: out is the buffer then, and next the position behind them
 module _ (f : Fixed) (l : List ℕ) (s : State) (sb cb : List ℕ) (w : Written) (i j : ℕ) (h : i ≤ j) (g : j ≤ length l)
     (next : ℕ) (out : List ℕ) where
   abbrev xs : List ℕ
@@ -218,13 +218,13 @@ module _ (f : Fixed) (l : List ℕ) (s : State) (sb cb : List ℕ) (w : Written)
   client-gives : w .server + (j - i) ≤ length sb → w .client ≤ length cb
       → ((m n : ℕ) → length xs ≤ m → takes f client s (xs ++ drop j l) m n ≡ prefixed (length xs) xs []
       (takes f client s (drop j l) (m - length xs) (n - 0)))
-      → next ≡ placeAfter sb (w .server) xs → out ≡ placed sb (w .server) xs
+      → next ≡ positionAfter sb (w .server) xs → out ≡ putAt sb (w .server) xs
       → Ran f client l (coreFrom s sb cb w) i (coreFrom s out cb (record { server = next; client = w .client })) j
   client-gives room other law en eo =
       let size : length xs ≡ j - i = part-length l i j h g in
       let fits : w .server + length xs ≤ length sb = omega arith in
       let at = en ∙ after-fits sb (w .server) xs fits in
-      let kept = nothing-placed cb (w .client) .1 in
+      let kept = nothing-put cb (w .client) .1 in
       let wc : w .client ≡ w .client + 0 = omega arith in
       record {
         toServer = xs;
@@ -243,13 +243,13 @@ module _ (f : Fixed) (l : List ℕ) (s : State) (sb cb : List ℕ) (w : Written)
   server-gives : w .client + (j - i) ≤ length cb → w .server ≤ length sb
       → ((m n : ℕ) → length xs ≤ n → takes f server s (xs ++ drop j l) m n ≡ prefixed (length xs) [] xs
       (takes f server s (drop j l) (m - 0) (n - length xs)))
-      → next ≡ placeAfter cb (w .client) xs → out ≡ placed cb (w .client) xs
+      → next ≡ positionAfter cb (w .client) xs → out ≡ putAt cb (w .client) xs
       → Ran f server l (coreFrom s sb cb w) i (coreFrom s sb out (record { server = w .server; client = next })) j
   server-gives room other law en eo =
       let size : length xs ≡ j - i = part-length l i j h g in
       let fits : w .client + length xs ≤ length cb = omega arith in
       let at = en ∙ after-fits cb (w .client) xs fits in
-      let kept = nothing-placed sb (w .server) .1 in
+      let kept = nothing-put sb (w .server) .1 in
       let ws : w .server ≡ w .server + 0 = omega arith in
       record {
         toServer = [];
@@ -267,28 +267,28 @@ module _ (f : Fixed) (l : List ℕ) (s : State) (sb cb : List ℕ) (w : Written)
 
   pub client-passed : Settled s → s .control .client ≡ at Place.Passing 0 → w .server + (j - i) ≤ length sb
       → w .client ≤ length cb
-      → next ≡ placeAfter sb (w .server) xs → out ≡ placed sb (w .server) xs
+      → next ≡ positionAfter sb (w .server) xs → out ≡ putAt sb (w .server) xs
       → Ran f client l (coreFrom s sb cb w) i (coreFrom s out cb (record { server = next; client = w .client })) j
   client-passed settled p room other =
       client-gives room other (λ m n a. passes-run f client s settled p xs (drop j l) m n a (omega arith))
 
   pub server-passed : Settled s → s .control .server ≡ at Place.Passing 0 → w .client + (j - i) ≤ length cb
       → w .server ≤ length sb
-      → next ≡ placeAfter cb (w .client) xs → out ≡ placed cb (w .client) xs
+      → next ≡ positionAfter cb (w .client) xs → out ≡ putAt cb (w .client) xs
       → Ran f server l (coreFrom s sb cb w) i (coreFrom s sb out (record { server = w .server; client = next })) j
   server-passed settled p room other =
       server-gives room other (λ m n b. passes-run f server s settled p xs (drop j l) m n (omega arith) b)
 
   pub client-flowed : Settled s → s .control .client ≡ at Place.Flowing 0 → Open client s
       → every (isNot lf) xs ≡ true → w .server + (j - i) ≤ length sb → w .client ≤ length cb
-      → next ≡ placeAfter sb (w .server) xs → out ≡ placed sb (w .server) xs
+      → next ≡ positionAfter sb (w .server) xs → out ≡ putAt sb (w .server) xs
       → Ran f client l (coreFrom s sb cb w) i (coreFrom s out cb (record { server = next; client = w .client })) j
   client-flowed settled p queue none room other =
       client-gives room other (λ m n a. flows-run f client s settled p queue xs (drop j l) m n none a (omega arith))
 
   pub server-flowed : Settled s → s .control .server ≡ at Place.Flowing 0 → every (isNot lf) xs ≡ true
       → w .client + (j - i) ≤ length cb → w .server ≤ length sb
-      → next ≡ placeAfter cb (w .client) xs → out ≡ placed cb (w .client) xs
+      → next ≡ positionAfter cb (w .client) xs → out ≡ putAt cb (w .client) xs
       → Ran f server l (coreFrom s sb cb w) i (coreFrom s sb out (record { server = w .server; client = next })) j
   unfolding isQueueFull
   server-flowed settled p none room other =
@@ -306,8 +306,8 @@ module _ (f : Fixed) (l : List ℕ) (s : State) (sb cb : List ℕ) (w : Written)
       → Ran f d l (coreFrom s sb cb w) i (coreFrom s′ sb cb w) j
   holds-part d s′ e counts law =
       let size : length ys ≡ j - i = part-length l i j h g in
-      let ps = nothing-placed sb (w .server) .1 in
-      let pc = nothing-placed cb (w .client) .1 in
+      let ps = nothing-put sb (w .server) .1 in
+      let pc = nothing-put cb (w .client) .1 in
       let ws : w .server ≡ w .server + 0 = omega arith in
       let wc : w .client ≡ w .client + 0 = omega arith in
       record {
@@ -326,7 +326,7 @@ module _ (f : Fixed) (l : List ℕ) (s : State) (sb cb : List ℕ) (w : Written)
 
   pub client-held : Settled s → s .control .client .place ≡ Place.Holding → Open client s → every (isNot lf) ys ≡ true
       → s .control .client .held + (j - i) ≤ mostHeld → length (s .command) ≡ mostHeld
-      → n ≡ s .control .client .held + (j - i) → line ≡ placed (s .command) (s .control .client .held) ys
+      → n ≡ s .control .client .held + (j - i) → line ≡ putAt (s .command) (s .control .client .held) ys
       → Ran f client l (coreFrom s sb cb w) i (coreFrom (holding client s n line) sb cb w) j
   unfolding judged
   client-held settled p queue none most array en el =
@@ -338,7 +338,7 @@ module _ (f : Fixed) (l : List ℕ) (s : State) (sb cb : List ℕ) (w : Written)
 
   pub server-held : Settled s → s .control .server .place ≡ Place.Holding → every (isNot lf) ys ≡ true
       → s .control .server .held + (j - i) ≤ mostHeld → length (s .reply) ≡ mostHeld
-      → n ≡ s .control .server .held + (j - i) → line ≡ placed (s .reply) (s .control .server .held) ys
+      → n ≡ s .control .server .held + (j - i) → line ≡ putAt (s .reply) (s .control .server .held) ys
       → Ran f server l (coreFrom s sb cb w) i (coreFrom (holding server s n line) sb cb w) j
   unfolding judged isQueueFull
   server-held settled p none most array en el =

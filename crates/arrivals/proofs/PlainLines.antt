@@ -14,8 +14,8 @@ use Rattle.rules.specs.Answers.{client, isQueueFull, mostOwed}
 use Rattle.rules.specs.Lines.{mostHeld}
 use Rattle.records.specs.Layout.{lentKinds, lentCommand, lentSize}
 use Rattle.octets.proofs.Runs.{part-length}
-use Rattle.output.specs.Buffer.{placed, placeAfter}
-use Rattle.output.proofs.Placing.{length-placed, take-placed, after-fits, nothing-placed}
+use Rattle.output.specs.Buffer.{putAt, positionAfter}
+use Rattle.output.proofs.Placing.{length-put, take-put-at, after-fits, nothing-put}
 use Rattle.places.specs.declared.Place.{Place}
 use Rattle.places.specs.declared.Direction.{Direction}
 use Rattle.places.specs.Places.{at}
@@ -109,7 +109,7 @@ few-open owed h = sym (full-by-count true false owed refl refl) ∙ lt-leb mostO
 
 module _ (l : List ℕ) {i j : ℕ} (held : ℕ) (lent : List ℕ) {p : List ℕ} (all : length lent ≡ lentSize) (h : i ≤ j) (g : j ≤ length l)
     (room : held + (j - i) ≤ length (commandIn (linesLent lent)))
-    (line : p ≡ placed (commandIn (linesLent lent)) held (take (j - i) (drop i l))) where
+    (line : p ≡ putAt (commandIn (linesLent lent)) held (take (j - i) (drop i l))) where
   abbrev xs : List ℕ
   xs = take (j - i) (drop i l)
 
@@ -123,7 +123,7 @@ module _ (l : List ℕ) {i j : ℕ} (held : ℕ) (lent : List ℕ) {p : List ℕ
   xs-fit = omega (arith, part-length l i j h g, room)
 
   line-size : length p ≡ mostHeld
-  line-size = ap (λ (x : List ℕ). length x) line ∙ (length-placed before held xs xs-fit ∙ before-size)
+  line-size = ap (λ (x : List ℕ). length x) line ∙ (length-put before held xs xs-fit ∙ before-size)
 
   pub lent-size : length (putMid lentCommand mostHeld lent p) ≡ lentSize
   lent-size = put-size lentCommand mostHeld lent p (omega (arith, all)) line-size ∙ all
@@ -137,7 +137,7 @@ module _ (l : List ℕ) {i j : ℕ} (held : ℕ) (lent : List ℕ) {p : List ℕ
       sym (ap (λ (n : ℕ). take n now) count
       ∙ (sym (take-take (held + length xs) mostHeld now (omega (arith, xs-fit, before-size)))
       ∙ (ap (take (held + length xs)) (part ∙ line)
-      ∙ (take-placed before held xs xs-fit ∙ ap (λ (n : ℕ). take n before ++ xs) e))))
+      ∙ (take-put-at before held xs xs-fit ∙ ap (λ (n : ℕ). take n before ++ xs) e))))
 
   -- the octets up to an LF, put behind those that are held
   pub line-held : (owed : ℕ) (out : List ℕ) (at : ℕ) → every (isNot lf) xs ≡ true → owed < mostOwed → isStill (kindsLent lent) 0 owed ≡ true
@@ -176,13 +176,13 @@ module _ (f : Fixed) (l : List ℕ) (s : State) (sb cb : List ℕ) (w : Written)
   client-ended : j < length l → getD l j 0 ≡ lf → s .control .client .place ≡ Place.Holding → Open client s
       → isStill (s .kinds) 0 (s .control .owed) ≡ true → isPlain (take (s .control .client .held) (s .command)) ≡ true
       → s .control .owed < mostOwed → length (s .kinds) ≡ mostOwed → w .server + length text ≤ length sb → w .client ≤ length cb
-      → next ≡ placeAfter sb (w .server) text → out ≡ placed sb (w .server) text
+      → next ≡ positionAfter sb (w .server) text → out ≡ putAt sb (w .server) text
       → Ran f client l (coreFrom s sb cb w) j (coreFrom ended out cb (record { server = next; client = w .client })) (j + 1)
   client-ended h e place queue still plain few size room other en eo =
       let x = text in
       let step = client-line f s place still plain in
       let at = en ∙ after-fits sb (w .server) x room in
-      let kept = nothing-placed cb (w .client) .1 in
+      let kept = nothing-put cb (w .client) .1 in
       let wc : w .client ≡ w .client + 0 = omega arith in
       record {
         toServer = x;
@@ -206,7 +206,7 @@ module _ (f : Fixed) (l : List ℕ) (s : State) (sb cb : List ℕ) (w : Written)
 module _ (l : List ℕ) {j : ℕ} (n owed : ℕ) (lent : List ℕ) (all : length lent ≡ lentSize) (out : List ℕ) (at : ℕ) {next : ℕ} {out′ line : List ℕ} where
   pub line-ended : j < length l → getD l j 0 ≡ lf → n ≤ mostHeld → owed < mostOwed → isStill (kindsLent lent) 0 owed ≡ true → at ≤ length out
       → n < length out - at → line ≡ take (lentCommand + n - lentCommand) (drop lentCommand lent) → isPlain line ≡ true
-      → next ≡ placeAfter out at (line ++ (lf ∷ [])) → out′ ≡ placed out at (line ++ (lf ∷ []))
+      → next ≡ positionAfter out at (line ++ (lf ∷ [])) → out′ ≡ putAt out at (line ++ (lf ∷ []))
       → SaidPlain l j n owed lent out at (record { more = true; taken = j + 1; held = 0; owed = owed + 1; at = next })
       (set lent (lentKinds + owed) 0) out′
   line-ended h e most few still inside room el plain en eo =
@@ -222,7 +222,7 @@ module _ (l : List ℕ) {j : ℕ} (n owed : ℕ) (lent : List ℕ) (all : length
       ∙ length-take-le n (drop lentCommand lent) (omega (arith, all, length-drop lentCommand lent)) in
       let fits : at + length (line ++ (lf ∷ [])) ≤ length out = omega (arith, length-append line (lf ∷ [])) in
       let end = en ∙ after-fits out at (line ++ (lf ∷ [])) fits in
-      let whole = ap (λ (x : List ℕ). length x) eo ∙ length-placed out at (line ++ (lf ∷ [])) fits in
+      let whole = ap (λ (x : List ℕ). length x) eo ∙ length-put out at (line ++ (lf ∷ [])) fits in
       record {
         ran = λ f c toClient m other.
             let w : Written = record { server = at; client = m } in
@@ -235,7 +235,7 @@ module _ (l : List ℕ) {j : ℕ} (n owed : ℕ) (lent : List ℕ) (all : length
             (client-ended f l s out toClient w j next out′ h e refl (few-open owed few) still
             (subst (λ (x : List ℕ). isPlain x ≡ true) same plain) few kinds
             (subst (λ (x : List ℕ). at + length (x ++ (lf ∷ [])) ≤ length out) same fits) other
-            (en ∙ ap (λ (x : List ℕ). placeAfter out at (x ++ (lf ∷ []))) same) (eo ∙ ap (λ (x : List ℕ). placed out at (x ++ (lf ∷ []))) same));
+            (en ∙ ap (λ (x : List ℕ). positionAfter out at (x ++ (lf ∷ []))) same) (eo ∙ ap (λ (x : List ℕ). putAt out at (x ++ (lf ∷ []))) same));
         held = omega arith;
         owed = omega arith;
         written = omega arith;

@@ -19,10 +19,10 @@ use Rattle.records.specs.Layout.{lentKinds, lentCommand, lentReply, lentSize}
 use Rattle.octets.proofs.Ranges.{and-both}
 use Rattle.octets.proofs.Choices.{either, choose-true, choose-false}
 use Rattle.octets.proofs.Runs.{part-length}
-use Rattle.output.specs.Buffer.{placed, placeAfter}
-use Rattle.output.proofs.Placing.{length-placed, take-placed, after-fits, nothing-placed}
+use Rattle.output.specs.Buffer.{putAt, positionAfter}
+use Rattle.output.proofs.Placing.{length-put, take-put-at, after-fits, nothing-put}
 use Rattle.places.specs.declared.Place.{Place}
-use Rattle.places.specs.Places.{at, passesFromNow}
+use Rattle.places.specs.Places.{at, directionFromNow}
 use Rattle.gives.specs.declared.Gives.{Gives}
 use Rattle.gives.specs.Text.{givesText}
 use Rattle.queue.specs.declared.Owes.{Owes}
@@ -74,7 +74,7 @@ module _ (s : State) (n : ℕ) (size : s .control .owed ≤ length (s .kinds)) (
   unfolding settledState
   still-state =
       let c = s .control in
-      let stays = choose-false (passesFromNow (c .server) (c .server .place)) (c .server) still-next in
+      let stays = choose-false (directionFromNow (c .server) (c .server .place)) (c .server) still-next in
       λ i. stateFrom (record { switches = c .switches; client = c .client; server = stays i; owed = c .owed - still-leaving i; unfinished = c .unfinished })
       (s .command) (s .reply) (shifted (s .kinds) (still-leaving i) (c .owed))
 
@@ -207,10 +207,10 @@ module _ (f : Fixed) (s : State) (place : s .control .server .place ≡ Place.Ho
         toClient = line ++ still-text ended n size behind i;
       }) ∙ ap (stepTo answeredNext []) (append-nil line))
 
-  -- the same as a run of one octet: out is the client's buffer then, and next the place behind the line
+  -- the same as a run of one octet: out is the client's buffer then, and next the position behind the line
   module _ (l sb cb : List ℕ) (w : Written) (j : ℕ) (h : j < length l) (end : getD l j 0 ≡ lf) (line : List ℕ)
       (text : line ≡ take (s .control .server .held) (s .reply)) (room : w .client + length line < length cb) (other : w .server ≤ length sb)
-      (next : ℕ) (out : List ℕ) (en : next ≡ placeAfter cb (w .client) (line ++ (lf ∷ []))) (eo : out ≡ placed cb (w .client) (line ++ (lf ∷ []))) where
+      (next : ℕ) (out : List ℕ) (en : next ≡ positionAfter cb (w .client) (line ++ (lf ∷ []))) (eo : out ≡ putAt cb (w .client) (line ++ (lf ∷ []))) where
     pub server-ended : Ran f server l (coreFrom s sb cb w) j (coreFrom answeredNext sb out (record { server = w .server; client = next })) (j + 1)
     unfolding isQueueFull
     server-ended =
@@ -218,7 +218,7 @@ module _ (f : Fixed) (s : State) (place : s .control .server .place ≡ Place.Ho
         let long = length-append line (lf ∷ []) in
         let fits : w .client + length x ≤ length cb = omega arith in
         let at = en ∙ after-fits cb (w .client) x fits in
-        let kept = nothing-placed sb (w .server) .1 in
+        let kept = nothing-put sb (w .server) .1 in
         let ws : w .server ≡ w .server + 0 = omega arith in
         let step = server-line ∙ ap (λ (z : List ℕ). stepTo answeredNext [] (z ++ (lf ∷ []))) (sym text) in
         record {
@@ -292,7 +292,7 @@ answered-from f l c lent sb cb w i j then {after} {before} e built ran =
 
 -- octets of a line that has not ended: p is the server's line then
 module _ (l : List ℕ) (i j h : ℕ) (lent p : List ℕ) (all : length lent ≡ lentSize) (forward : i ≤ j) (inside : j ≤ length l)
-    (room : h + (j - i) ≤ length (midOf lentReply mostHeld lent)) (put : p ≡ placed (midOf lentReply mostHeld lent) h (take (j - i) (drop i l))) where
+    (room : h + (j - i) ≤ length (midOf lentReply mostHeld lent)) (put : p ≡ putAt (midOf lentReply mostHeld lent) h (take (j - i) (drop i l))) where
   abbrev ys : List ℕ
   ys = take (j - i) (drop i l)
 
@@ -303,7 +303,7 @@ module _ (l : List ℕ) (i j h : ℕ) (lent p : List ℕ) (all : length lent ≡
   line-size = length-take-le mostHeld (drop lentReply lent) (omega (arith, all, length-drop lentReply lent))
 
   part-size : length p ≡ mostHeld
-  part-size = ap length put ∙ (length-placed (midOf lentReply mostHeld lent) h ys (omega (arith, part-length l i j forward inside)) ∙ line-size)
+  part-size = ap length put ∙ (length-put (midOf lentReply mostHeld lent) h ys (omega (arith, part-length l i j forward inside)) ∙ line-size)
 
   pub held-size : length (putMid lentReply mostHeld lent p) ≡ lentSize
   held-size = put-size lentReply mostHeld lent p (omega (arith, all)) part-size ∙ all
@@ -315,9 +315,9 @@ module _ (l : List ℕ) (i j h : ℕ) (lent p : List ℕ) (all : length lent ≡
       let line = midOf lentReply mostHeld lent in
       let now = drop lentReply (putMid lentReply mostHeld lent p) in
       let whole = take-all mostHeld now (omega (arith, length-drop lentReply (putMid lentReply mostHeld lent p), held-size)) in
-      let same = sym whole ∙ (put-part lentReply mostHeld lent p (omega (arith, all)) part-size ∙ (put ∙ ap (λ (k : ℕ). placed line k ys) e)) in
+      let same = sym whole ∙ (put-part lentReply mostHeld lent p (omega (arith, all)) part-size ∙ (put ∙ ap (λ (k : ℕ). putAt line k ys) e)) in
       let long : lentReply + held - lentReply ≡ 0 + length ys = omega arith in
-      sym (ap (take (lentReply + held - lentReply)) same ∙ (ap (λ (k : ℕ). take k (placed line 0 ys)) long ∙ take-placed line 0 ys (omega arith)))
+      sym (ap (take (lentReply + held - lentReply)) same ∙ (ap (λ (k : ℕ). take k (putAt line 0 ys)) long ∙ take-put-at line 0 ys (omega arith)))
 
   pub reply-held : (m : ℕ) (u : Bool) (out : List ℕ) (w : ℕ) → m ≤ mostOwed → w ≤ length out → isStill (kindsLent lent) 0 m ≡ true → every (isNot lf) ys ≡ true
       → AnsweredPlain l i h m u lent out w (record { more = false; taken = j; held = held; owed = m; unfinished = u; at = w }) (putMid lentReply mostHeld lent p) out
@@ -328,7 +328,7 @@ module _ (l : List ℕ) (i j h : ℕ) (lent p : List ℕ) (all : length lent ≡
             let b : Written = record { server = k; client = w } in
             let before = reply-lent lent all in
             let run = server-held f l s sb out b i j forward inside held p other written (still-settled s still) refl none
-            (omega (arith, line-size)) (sym (ap length before) ∙ line-size) refl (put ∙ ap (λ (z : List ℕ). placed z h ys) before) in
+            (omega (arith, line-size)) (sym (ap length before) ∙ line-size) refl (put ∙ ap (λ (z : List ℕ). putAt z h ys) before) in
             subst (λ (z : State). Ran f server l (coreFrom s sb out b) i (coreFrom z sb out b) j) (sym (reply-back lent all p part-size (answeredControl c held m u))) run;
         held = omega (arith, line-size);
         owed = owed;
@@ -343,7 +343,7 @@ module _ (l : List ℕ) (j n m : ℕ) (u : Bool) (lent p out out′ : List ℕ) 
     (seen line : List ℕ) (es : seen ≡ take (lentReply + n - lentReply) (drop lentReply lent)) (el : line ≡ take (lentReply + n - lentReply) (drop lentReply lent))
     (r : ReplyLine) (read : r ≡ replyLine (content seen)) (ek : k ≡ plainRemoves r m) (ev : v ≡ leavesUnfinished r)
     (keeps : keepsStill (kindsLent lent) u k m ≡ true)
-    (en : next ≡ placeAfter out w (line ++ (lf ∷ []))) (eo : out′ ≡ placed out w (line ++ (lf ∷ []))) (put : p ≡ shifted (kindsLent lent) k m) where
+    (en : next ≡ positionAfter out w (line ++ (lf ∷ []))) (eo : out′ ≡ putAt out w (line ++ (lf ∷ []))) (put : p ≡ shifted (kindsLent lent) k m) where
   kinds-hold : m ≤ length (kindsLent lent)
   kinds-hold = omega (arith, kinds-size lent all)
 
@@ -379,7 +379,7 @@ module _ (l : List ℕ) (j n m : ℕ) (u : Bool) (lent p out out′ : List ℕ) 
             ∙ (λ i. stateFrom (answeredControl c 0 (m - ek i) (ev i)) (commandIn lines) (replyIn lines) (kinds i)))) run;
         held = omega arith;
         owed = omega arith;
-        written = omega (arith, en ∙ after-fits out w x fits, ap length eo, length-placed out w x fits);
+        written = omega (arith, en ∙ after-fits out w x fits, ap length eo, length-put out w x fits);
         still = subst (λ (z : List ℕ). isStill z 0 (m - k) ≡ true) (sym (put-part lentKinds mostOwed lent p (omega (arith, all)) kinds-left ∙ put))
             (shifted-still (kindsLent lent) k m kinds-hold (kept-still (kindsLent lent) u m still k keeps));
         addresses = kinds-addresses lent all p kinds-left;

@@ -14,8 +14,8 @@ use Rattle.rules.specs.Octets.{lf, choose, every, isNot}
 use Rattle.rules.specs.Lines.{judged}
 use Rattle.rules.specs.Answers.{Side, client, server, isQueueFull, fits, stop}
 use Rattle.octets.proofs.Ranges.{and-both}
-use Rattle.output.specs.Buffer.{placed}
-use Rattle.output.proofs.Placing.{placed-fits, placed-after, nothing-placed}
+use Rattle.output.specs.Buffer.{putAt}
+use Rattle.output.proofs.Placing.{put-fits, put-after, nothing-put}
 use Rattle.places.specs.declared.Place.{Place}
 use Rattle.places.specs.declared.Direction.{Direction}
 use Rattle.places.specs.Places.{at, isPassing}
@@ -151,14 +151,14 @@ flows-run f server s settled p queue xs ys m n t a b =
 
 -- ---- octets that are held
 
--- one octet stored before others are placed
-placed-more : (line : List ℕ) (k x : ℕ) (xs : List ℕ) → k + length (x ∷ xs) ≤ length line
-    → placed (set line k x) (k + 1) xs ≡ placed line k (x ∷ xs)
-placed-more line k x xs h =
-    let put : set line k x ≡ placed line k (x ∷ []) =
+-- one octet stored before others are put
+put-more : (line : List ℕ) (k x : ℕ) (xs : List ℕ) → k + length (x ∷ xs) ≤ length line
+    → putAt (set line k x) (k + 1) xs ≡ putAt line k (x ∷ xs)
+put-more line k x xs h =
+    let put : set line k x ≡ putAt line k (x ∷ []) =
     set-split line k x (omega arith) ∙ ap (λ (j : ℕ). take k line ++ (x ∷ drop j line)) (sym (add-one k))
-    ∙ sym (placed-fits line k (x ∷ []) (omega arith)) in
-    ap (λ (l : List ℕ). placed l (k + 1) xs) put ∙ placed-after line k (x ∷ []) xs h
+    ∙ sym (put-fits line k (x ∷ []) (omega arith)) in
+    ap (λ (l : List ℕ). putAt l (k + 1) xs) put ∙ put-after line k (x ∷ []) xs h
 
 -- by the number of octets held and the array, which change; s is any state with the rest of the record
 module _ (f : Fixed) (s : State) (ys : List ℕ) (m n : ℕ) where
@@ -166,12 +166,12 @@ module _ (f : Fixed) (s : State) (ys : List ℕ) (m n : ℕ) where
       → Open client (holding client s k line)
       → every (isNot lf) xs ≡ true → k + length xs < judged → k + length xs ≤ length line
       → takes f client (holding client s k line) (xs ++ ys) m n
-      ≡ prefixed (length xs) [] [] (takes f client (holding client s (k + length xs) (placed line k xs)) ys m n)
+      ≡ prefixed (length xs) [] [] (takes f client (holding client s (k + length xs) (putAt line k xs)) ys m n)
   unfolding every
   client-hold [] k line settled queue t h g =
       none-before (takes f client (holding client s k line) ys m n)
       ∙ (λ i. prefixed 0 [] [] (takes f client
-      (holding client s (sym (add-zero k) i) (nothing-placed line k .1 i)) ys m n))
+      (holding client s (sym (add-zero k) i) (nothing-put line k .1 i)) ys m n))
   client-hold (x ∷ xs) k line settled queue t h g =
       let both = and-both (isNot lf x) (every (isNot lf) xs) t in
       let now = holding client s k line in
@@ -180,24 +180,24 @@ module _ (f : Fixed) (s : State) (ys : List ℕ) (m n : ℕ) where
       (client-kept now settled (at Place.Holding (k + 1)) (set line k x)) queue (both .1) (omega arith)
       (omega (arith, length-set line k x)) in
       let more : k + 1 + length xs ≡ k + suc (length xs) = omega arith in
-      let r = takes f client (holding client s (k + suc (length xs)) (placed line k (x ∷ xs))) ys m n in
+      let r = takes f client (holding client s (k + suc (length xs)) (putAt line k (x ∷ xs))) ys m n in
       one-taken f client now x (xs ++ ys) m n (stepTo next [] [])
       (client-holds f now x settled refl (no-lf x (both .0)) (omega arith)) queue (omega arith) (omega arith)
       ∙ ap (andThen (stepTo next [] []))
       ((λ i. takes f client next (xs ++ ys) (sub-zero m i) (sub-zero n i))
       ∙ (rest ∙ (λ i. prefixed (length xs) [] []
-      (takes f client (holding client s (more i) (placed-more line k x xs g i)) ys m n))))
+      (takes f client (holding client s (more i) (put-more line k x xs g i)) ys m n))))
       ∙ one-before (stepTo next [] []) (length xs) [] [] r
 
   server-hold : (xs : List ℕ) (k : ℕ) (line : List ℕ) → Settled (holding server s k line)
       → every (isNot lf) xs ≡ true → k + length xs < judged → k + length xs ≤ length line
       → takes f server (holding server s k line) (xs ++ ys) m n
-      ≡ prefixed (length xs) [] [] (takes f server (holding server s (k + length xs) (placed line k xs)) ys m n)
+      ≡ prefixed (length xs) [] [] (takes f server (holding server s (k + length xs) (putAt line k xs)) ys m n)
   unfolding every isQueueFull
   server-hold [] k line settled t h g =
       none-before (takes f server (holding server s k line) ys m n)
       ∙ (λ i. prefixed 0 [] [] (takes f server
-      (holding server s (sym (add-zero k) i) (nothing-placed line k .1 i)) ys m n))
+      (holding server s (sym (add-zero k) i) (nothing-put line k .1 i)) ys m n))
   server-hold (x ∷ xs) k line settled t h g =
       let both = and-both (isNot lf x) (every (isNot lf) xs) t in
       let now = holding server s k line in
@@ -205,13 +205,13 @@ module _ (f : Fixed) (s : State) (ys : List ℕ) (m n : ℕ) where
       let rest = server-hold xs (k + 1) (set line k x) (server-kept now settled refl (k + 1) (set line k x)) (both .1)
       (omega arith) (omega (arith, length-set line k x)) in
       let more : k + 1 + length xs ≡ k + suc (length xs) = omega arith in
-      let r = takes f server (holding server s (k + suc (length xs)) (placed line k (x ∷ xs))) ys m n in
+      let r = takes f server (holding server s (k + suc (length xs)) (putAt line k (x ∷ xs))) ys m n in
       one-taken f server now x (xs ++ ys) m n (stepTo next [] [])
       (server-holds f now x settled refl (no-lf x (both .0)) (omega arith)) refl (omega arith) (omega arith)
       ∙ ap (andThen (stepTo next [] []))
       ((λ i. takes f server next (xs ++ ys) (sub-zero m i) (sub-zero n i))
       ∙ (rest ∙ (λ i. prefixed (length xs) [] []
-      (takes f server (holding server s (more i) (placed-more line k x xs g i)) ys m n))))
+      (takes f server (holding server s (more i) (put-more line k x xs g i)) ys m n))))
       ∙ one-before (stepTo next [] []) (length xs) [] [] r
 
 -- a holding state as one

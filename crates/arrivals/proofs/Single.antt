@@ -12,7 +12,7 @@ use Rattle.rules.specs.Answers.{client, server}
 use Rattle.octets.proofs.Choices.{choose-true}
 use Rattle.places.specs.declared.Place.{Place}
 use Rattle.places.specs.declared.Direction.{Direction}
-use Rattle.places.specs.Places.{at, isHolding, flowsOrEnded}
+use Rattle.places.specs.Places.{at, isHolding, isFlowingOrEnded}
 use Rattle.gives.specs.declared.Gives.{Gives}
 use Rattle.gives.specs.Text.{givesText}
 use Rattle.queue.specs.declared.Owes.{Owes}
@@ -22,7 +22,7 @@ use Rattle.downstream.specs.Downstream.{serverEffectOf, replyOctet, replyEffect
 use Rattle.steps.specs.declared.Fixed.{Fixed}
 use Rattle.records.specs.Sound.{blocked}
 use Rattle.steps.specs.Steps.{State, Step, stored, owedThen, clientEffectIn, clientState, clientStep, serverEffectIn, serverState, serverStep, octetStep}
-use Rattle.steps.specs.Settled.{Through, passes, ended, Settled}
+use Rattle.steps.specs.Settled.{Through, throughPassing, throughEnded, Settled}
 use Rattle.arrivals.specs.Runs.{withCommand, withReply}
 use Rattle.steps.proofs.Quiet.{settles-same, settles-silent}
 
@@ -94,8 +94,8 @@ module _ (f : Fixed) (s : State) (x : ℕ) where
 
 -- a holding server is not through, so AUTH is not first
 still-through : (p : Place) (n : ℕ) → isHolding p ≡ true → Through p n → (m : ℕ) → Through Place.Holding m
-still-through p n e passes m = absurd (false≢true e)
-still-through p n e ended m = absurd (false≢true e)
+still-through p n e throughPassing m = absurd (false≢true e)
+still-through p n e throughEnded m = absurd (false≢true e)
 
 -- it stays settled while the server goes on holding
 pub server-kept : (s : State) → Settled s → s .control .server .place ≡ Place.Holding → (n : ℕ) (line : List ℕ)
@@ -103,7 +103,7 @@ pub server-kept : (s : State) → Settled s → s .control .server .place ≡ Pl
 unfolding blocked
 server-kept s settled p n line =
     record {
-      answers = λ e. settled .answers (ap (λ (q : Place). s .control .unfinished || flowsOrEnded q) p ∙ e);
+      answers = λ e. settled .answers (ap (λ (q : Place). s .control .unfinished || isFlowingOrEnded q) p ∙ e);
       auth = λ e. still-through (s .control .server .place) (s .control .server .held) (ap isHolding p) (settled .auth e) n;
     }
 

@@ -4,7 +4,7 @@ use mathlib.Core.Path.{_≡_}
 use Prim.Native.Nat.{ℕ, _+_, _-_, _≤_}
 use lib.ListN.{length, drop}
 use Rattle.rules.specs.Answers.{Side, client, server}
-use Rattle.output.specs.Buffer.{placed}
+use Rattle.output.specs.Buffer.{putAt}
 use Rattle.places.specs.declared.Place.{Place}
 use Rattle.places.specs.declared.Direction.{Direction}
 use Rattle.records.specs.Sound.{directionOf, Counted}
@@ -51,7 +51,7 @@ holding server s n line = withReply s (at Place.Holding n) line
 -- a state in which a side holds xs behind what it held
 abbrev pub holdsMore : Side → State → List ℕ → State
 holdsMore d s xs =
-    holding d s (directionOf d (s .control) .held + length xs) (placed (lineOf d s) (directionOf d (s .control) .held) xs)
+    holding d s (directionOf d (s .control) .held + length xs) (putAt (lineOf d s) (directionOf d (s .control) .held) xs)
 
 -- A run of the octets of l from i to j leads from k to k′: what is taken from i on is those octets, with the texts that
 -- they give, and what is taken from j on, whatever the room; and the texts stand in the buffers.
@@ -66,8 +66,8 @@ pub record Ran (f : Fixed) (d : Side) (l : List ℕ) (k : Core) (i : ℕ) (k′ 
       → takes f d (k .state) (drop i l) m n
       ≡ prefixed (j - i) toServer toClient (takes f d (k′ .state) (drop j l) (m - length toServer) (n - length toClient))
   pub core : k′
-      ≡ coreFrom (k′ .state) (placed (k .serverBuffer) (k .written .server) toServer)
-      (placed (k .clientBuffer) (k .written .client) toClient)
+      ≡ coreFrom (k′ .state) (putAt (k .serverBuffer) (k .written .server) toServer)
+      (putAt (k .clientBuffer) (k .written .client) toClient)
       (record { server = k .written .server + length toServer; client = k .written .client + length toClient })
   pub counted : Counted (k .state .control) → Counted (k′ .state .control)
 

@@ -20,7 +20,7 @@ use records::layout::LENT_SIZE;
 use rules::Answer;
 use rules::Switches;
 use rules::number_of;
-use running::Part;
+use running::RunPart;
 use running::any_run;
 use steps::Written;
 use steps::next_octet;
@@ -202,7 +202,7 @@ fn next_run(
     to_server: &mut [u8],
     to_client: &mut [u8],
     written: Written,
-) -> Part
+) -> RunPart
     requires { ⌜ Bounded control written (now «to_server») (now «to_client») ⌝ }
     requires { ⌜ (i ≤ length (now octets)) × (length (now lent) ≡ lentSize) ⌝ }
     ensures { λ r.

@@ -18,7 +18,7 @@ ghost use Rattle.steps.specs.Core.{Bounded};
 ghost use Rattle.arrivals.specs.Runs.{Ran};
 ghost use Rattle.queue.specs.Kinds.{isStill};
 ghost use Rattle.arrivals.specs.PlainRuns.{isPlainFirst, plainRemoves, keepsStill, SaidPlain, AnsweredPlain};
-use crate::running::Part;
+use crate::running::RunPart;
 use crate::running::hold_run;
 use gives::put_line;
 use places::Direction;
@@ -309,7 +309,7 @@ fn plain_commands(
     lent: &mut [u8],
     to_server: &mut [u8],
     written: Written,
-) -> Part
+) -> RunPart
     requires { ⌜ Counted control × (isStill (kindsLent (now lent)) 0 (control .owed) ≡ true) ⌝ }
     requires { ⌜ (i ≤ length (now octets)) × (length (now lent) ≡ lentSize) × (written .server ≤ length (now «to_server»)) ⌝ }
     ensures { λ r.
@@ -323,7 +323,7 @@ fn plain_commands(
 {
     let direction = control.client;
     if !is_holding(direction) {
-        return Part {
+        return RunPart {
             taken: i,
             control,
             written,
@@ -342,7 +342,7 @@ fn plain_commands(
         place: Place::Holding,
         held: said.held,
     };
-    Part {
+    RunPart {
         taken: said.taken,
         control: with_client(control, control.switches, then, said.owed),
         written: Written {
@@ -360,7 +360,7 @@ fn plain_replies(
     lent: &mut [u8],
     to_client: &mut [u8],
     written: Written,
-) -> Part
+) -> RunPart
     requires { ⌜ Counted control × (isStill (kindsLent (now lent)) 0 (control .owed) ≡ true) ⌝ }
     requires { ⌜ (i ≤ length (now octets)) × (length (now lent) ≡ lentSize) × (written .client ≤ length (now «to_client»)) ⌝ }
     ensures { λ r.
@@ -374,7 +374,7 @@ fn plain_replies(
 {
     let direction = control.server;
     if !is_holding(direction) {
-        return Part {
+        return RunPart {
             taken: i,
             control,
             written,
@@ -394,7 +394,7 @@ fn plain_replies(
         place: Place::Holding,
         held: answered.held,
     };
-    Part {
+    RunPart {
         taken: answered.taken,
         control: with_server(control, then, answered.owed, answered.unfinished),
         written: Written {
@@ -414,7 +414,7 @@ pub fn plain_lines(
     to_server: &mut [u8],
     to_client: &mut [u8],
     written: Written,
-) -> Part
+) -> RunPart
     requires { ⌜ Bounded control written (now «to_server») (now «to_client») ⌝ }
     requires { ⌜ (i ≤ length (now octets)) × (length (now lent) ≡ lentSize) ⌝ }
     ensures { λ r.
@@ -424,7 +424,7 @@ pub fn plain_lines(
     ensures fixed { λ _. ⌜ addressesLent (now (lent .exit)) ≡ addressesLent (now (lent .entry)) ⌝ }
 {
     if !is_still(&lent[LENT_KINDS..LENT_COMMAND], 0, control.owed) {
-        return Part {
+        return RunPart {
             taken: i,
             control,
             written,

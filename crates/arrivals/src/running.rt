@@ -9,7 +9,7 @@ ghost use Rattle.rules.specs.Octets.{every, isNot, lf};
 ghost use Rattle.rules.specs.Answers.{client, isQueueFull};
 ghost use Rattle.rules.specs.Lines.{mostHeld};
 ghost use Rattle.records.specs.Layout.{linesSize};
-ghost use Rattle.output.specs.Buffer.{placed};
+ghost use Rattle.output.specs.Buffer.{putAt};
 ghost use Rattle.places.specs.Places.{at, isPassing as passes};
 ghost use Rattle.steps.specs.declared.Fixed.{Fixed};
 ghost use Rattle.steps.specs.Core.{Bounded};
@@ -35,7 +35,7 @@ use search::find_lf;
 use steps::Written;
 
 // How far a run goes, and the control and the counts then.
-pub struct Part {
+pub struct RunPart {
     pub taken: usize,
     pub control: Control,
     pub written: Written,
@@ -90,7 +90,7 @@ pub fn hold_run(octets: &[u8], i: usize, line: &mut [u8], held: usize) -> usize
     requires { ⌜ (i ≤ length (now octets)) × (held ≤ length (now line)) ⌝ }
     ensures end { λ r. ⌜ (i ≤ r) × (r ≤ length (now (octets .entry))) × (held + (r - i) ≤ length (now (line .entry))) ⌝ }
     ensures run { λ r. ⌜ every (isNot lf) (take (r - i) (drop i (now (octets .entry)))) ≡ true ⌝ }
-    ensures held { λ r. ⌜ now (line .exit) ≡ placed (now (line .entry)) held (take (r - i) (drop i (now (octets .entry)))) ⌝ }
+    ensures held { λ r. ⌜ now (line .exit) ≡ putAt (now (line .entry)) held (take (r - i) (drop i (now (octets .entry)))) ⌝ }
 {
     let j = no_lf_end(octets, i, line.len() - held);
     put(line, held, &octets[i..j]);
@@ -105,7 +105,7 @@ fn client_pass(
     i: usize,
     to_server: &mut [u8],
     written: Written,
-) -> Part
+) -> RunPart
     requires { ⌜ control .client ≡ at Place.Passing 0 ⌝ }
     requires { ⌜ Quiet control kinds ⌝ }
     requires { ⌜ (i ≤ length (now octets)) × (written .server ≤ length (now «to_server»)) ⌝ }
@@ -118,7 +118,7 @@ fn client_pass(
     let at = written.server;
     let j = i + least(octets.len() - i, to_server.len() - at);
     let next = put(to_server, at, &octets[i..j]);
-    Part {
+    RunPart {
         taken: j,
         control,
         written: Written {
@@ -136,7 +136,7 @@ fn client_flow(
     i: usize,
     to_server: &mut [u8],
     written: Written,
-) -> Part
+) -> RunPart
     requires { ⌜ control .client ≡ at Place.Flowing 0 ⌝ }
     requires { ⌜ Quiet control kinds ⌝ }
     requires { ⌜ isQueueFull client (passes (control .client .place)) (control .owed) ≡ false ⌝ }
@@ -150,7 +150,7 @@ fn client_flow(
     let at = written.server;
     let j = no_lf_end(octets, i, to_server.len() - at);
     let next = put(to_server, at, &octets[i..j]);
-    Part {
+    RunPart {
         taken: j,
         control,
         written: Written {
@@ -168,7 +168,7 @@ fn client_hold(
     i: usize,
     command: &mut [u8],
     written: Written,
-) -> Part
+) -> RunPart
     requires { ⌜ (control .client .place ≡ Place.Holding) × (control .client .held ≤ mostHeld) ⌝ }
     requires { ⌜ length (now command) ≡ mostHeld ⌝ }
     requires { ⌜ Quiet control kinds ⌝ }
@@ -188,7 +188,7 @@ fn client_hold(
         place: Place::Holding,
         held: held + (j - i),
     };
-    Part {
+    RunPart {
         taken: j,
         control: with_client(control, control.switches, then, control.owed),
         written,
@@ -205,7 +205,7 @@ fn client_run(
     command: &mut [u8],
     to_server: &mut [u8],
     written: Written,
-) -> Part
+) -> RunPart
     requires { ⌜ (control .client .held ≤ mostHeld) × (length (now command) ≡ mostHeld) ⌝ }
     requires { ⌜ isQueueFull client (passes (control .client .place)) (control .owed) ≡ false ⌝ }
     requires { ⌜ (i ≤ length (now octets)) × (written .server ≤ length (now «to_server»)) ⌝ }
@@ -217,7 +217,7 @@ fn client_run(
         ⌜ ClientRan kinds l i control line out written (r .control) after (now («to_server» .exit)) (r .written) (r .taken) ⌝ }
 {
     if !is_settled(control, kinds) {
-        return Part {
+        return RunPart {
             taken: i,
             control,
             written,
@@ -228,7 +228,7 @@ fn client_run(
         return client_hold(control, kinds, octets, i, command, written);
     }
     if direction.held != 0 {
-        return Part {
+        return RunPart {
             taken: i,
             control,
             written,
@@ -240,7 +240,7 @@ fn client_run(
     if is_passing(direction) {
         return client_pass(control, kinds, octets, i, to_server, written);
     }
-    Part {
+    RunPart {
         taken: i,
         control,
         written,
@@ -255,7 +255,7 @@ fn server_pass(
     i: usize,
     to_client: &mut [u8],
     written: Written,
-) -> Part
+) -> RunPart
     requires { ⌜ control .server ≡ at Place.Passing 0 ⌝ }
     requires { ⌜ Quiet control kinds ⌝ }
     requires { ⌜ (i ≤ length (now octets)) × (written .client ≤ length (now «to_client»)) ⌝ }
@@ -268,7 +268,7 @@ fn server_pass(
     let at = written.client;
     let j = i + least(octets.len() - i, to_client.len() - at);
     let next = put(to_client, at, &octets[i..j]);
-    Part {
+    RunPart {
         taken: j,
         control,
         written: Written {
@@ -286,7 +286,7 @@ fn server_flow(
     i: usize,
     to_client: &mut [u8],
     written: Written,
-) -> Part
+) -> RunPart
     requires { ⌜ control .server ≡ at Place.Flowing 0 ⌝ }
     requires { ⌜ Quiet control kinds ⌝ }
     requires { ⌜ (i ≤ length (now octets)) × (written .client ≤ length (now «to_client»)) ⌝ }
@@ -299,7 +299,7 @@ fn server_flow(
     let at = written.client;
     let j = no_lf_end(octets, i, to_client.len() - at);
     let next = put(to_client, at, &octets[i..j]);
-    Part {
+    RunPart {
         taken: j,
         control,
         written: Written {
@@ -317,7 +317,7 @@ fn server_hold(
     i: usize,
     reply: &mut [u8],
     written: Written,
-) -> Part
+) -> RunPart
     requires { ⌜ (control .server .place ≡ Place.Holding) × (control .server .held ≤ mostHeld) ⌝ }
     requires { ⌜ length (now reply) ≡ mostHeld ⌝ }
     requires { ⌜ Quiet control kinds ⌝ }
@@ -336,7 +336,7 @@ fn server_hold(
         place: Place::Holding,
         held: held + (j - i),
     };
-    Part {
+    RunPart {
         taken: j,
         control: with_server(control, then, control.owed, control.unfinished),
         written,
@@ -352,7 +352,7 @@ fn server_run(
     reply: &mut [u8],
     to_client: &mut [u8],
     written: Written,
-) -> Part
+) -> RunPart
     requires { ⌜ (control .server .held ≤ mostHeld) × (length (now reply) ≡ mostHeld) ⌝ }
     requires { ⌜ (i ≤ length (now octets)) × (written .client ≤ length (now «to_client»)) ⌝ }
     ensures { λ r.
@@ -363,7 +363,7 @@ fn server_run(
         ⌜ ServerRan kinds l i control line out written (r .control) after (now («to_client» .exit)) (r .written) (r .taken) ⌝ }
 {
     if !is_settled(control, kinds) {
-        return Part {
+        return RunPart {
             taken: i,
             control,
             written,
@@ -374,7 +374,7 @@ fn server_run(
         return server_hold(control, kinds, octets, i, reply, written);
     }
     if direction.held != 0 {
-        return Part {
+        return RunPart {
             taken: i,
             control,
             written,
@@ -386,7 +386,7 @@ fn server_run(
     if is_passing(direction) {
         return server_pass(control, kinds, octets, i, to_client, written);
     }
-    Part {
+    RunPart {
         taken: i,
         control,
         written,
@@ -404,7 +404,7 @@ pub fn any_run(
     to_server: &mut [u8],
     to_client: &mut [u8],
     written: Written,
-) -> Part
+) -> RunPart
     requires { ⌜ Bounded control written (now «to_server») (now «to_client») ⌝ }
     requires { ⌜ (i ≤ length (now octets)) × (length (now lines) ≡ linesSize) ⌝ }
     ensures { λ r.
@@ -413,7 +413,7 @@ pub fn any_run(
         ⌜ ((fixed : Fixed) → Ran fixed (sideIf «from_client») (now (octets .entry)) k i m (r .taken)) ⌝ }
 {
     if queue_full(from_client, control) {
-        return Part {
+        return RunPart {
             taken: i,
             control,
             written,

@@ -26,7 +26,7 @@ not-empty : (s : List ℕ) → (length s ≡ 0 → ⊥) → isEmpty s ≡ false
 not-empty [] h = absurd (h refl)
 not-empty (x ∷ s) h = refl
 
--- an EPSV argument is empty, or all digits, or a text, by its length and the place e where its digits end
+-- an EPSV argument is empty, or all digits, or a text, by its length and the position e where its digits end
 pub epsv-empty : (a : List ℕ) → length a ≡ 0 → EpsvArgument.Passive ≡ epsvArgument a
 unfolding epsvArgument
 epsv-empty a h = chosen _ refl (empty a h) refl

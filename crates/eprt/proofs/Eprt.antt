@@ -1,4 +1,4 @@
--- The argument of EPRT by the places of its delimiters, and its fields by what each was read as.
+-- The argument of EPRT by the positions of its delimiters, and its fields by what each was read as.
 use mathlib.Core.Path.{_≡_, refl, sym, ap, _∙_}
 use mathlib.Core.Bool.{Bool, true, false, and-true, and-false}
 use mathlib.Core.List.{List, [], _∷_}

@@ -121,7 +121,7 @@ pub line-of-parts : (n : ℕ) (d : Done) → entryLine n (doneOf (d .taken) (d .
 unfolding entryLine doneOf
 line-of-parts n d = refl
 
--- the line by the parts that its writer places one after another
+-- the line by the parts that its writer puts one after another
 pub line-parts : (n taken number : ℕ) (toServer toClient : List ℕ)
     → (decimal n ++ oct " ") ++ ((decimal taken ++ oct " ") ++ ((decimal number ++ oct " ") ++ ((field toServer ++ oct " ") ++ (field toClient ++ oct "\n"))))
     ≡ entryLine n (doneOf taken number toServer toClient)

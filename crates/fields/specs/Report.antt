@@ -7,7 +7,7 @@ use lib.ListN.{getD, take, drop}
 use Rattle.rules.specs.Octets.{oct, lf, space, choose, isEmpty, within, decimal}
 use Rattle.rules.specs.Answers.{answerNumber}
 use Rattle.records.specs.declared.Session.{Session}
-use Rattle.session.specs.Calls.{Outcome, prepared, arrived, ended, deadSession}
+use Rattle.session.specs.Calls.{Outcome, prepared, arrived, endCalled, deadSession}
 use Rattle.files.specs.declared.Verdict.{Verdict}
 use Rattle.files.specs.Contents.{Entry, count, tableEnd, tableOf, verdict, verdictNumber}
 
@@ -65,8 +65,8 @@ setUp body =
 unfoldable pub runEntry : Session → ℕ → List ℕ → Done
 runEntry s zero body = doneBy (arrived s 0 body outRoom outRoom)
 runEntry s (suc zero) body = doneBy (arrived s 1 body outRoom outRoom)
-runEntry s (suc (suc zero)) body = doneBy (ended s 0 outRoom outRoom)
-runEntry s (suc (suc (suc zero))) body = doneBy (ended s 1 outRoom outRoom)
+runEntry s (suc (suc zero)) body = doneBy (endCalled s 0 outRoom outRoom)
+runEntry s (suc (suc (suc zero))) body = doneBy (endCalled s 1 outRoom outRoom)
 runEntry s (suc (suc (suc (suc k)))) body = setUp body
 
 -- "number, taken (0 for setup and ends), answer, octets to the server, octets to the client"

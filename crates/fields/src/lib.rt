@@ -8,7 +8,7 @@ ghost use Prim.Native.Nat.{_+_, _<_};
 ghost use lib.Dec.{leb};
 ghost use lib.ListN.{length};
 ghost use Rattle.rules.specs.Octets.{decimal};
-ghost use Rattle.output.specs.Buffer.{placed, placeAfter, PlacedInRoom};
+ghost use Rattle.output.specs.Buffer.{putAt, positionAfter, PutInRoom};
 ghost use Rattle.fields.specs.Report.{hexGlyph, standsAsItself, shown, field, entryLine, headerLine};
 ghost use Rattle.fields.specs.Parts.{roomAfter, doneOf};
 
@@ -55,8 +55,8 @@ fn shown_length(x: u8) -> usize
 
 // An octet as itself, or as a backslash and two hex digits.
 fn put_shown(out: &mut [u8], at: usize, x: u8) -> usize
-    ensures { λ r. ⌜ r ≡ placeAfter (now (out .entry)) at (shown x) ⌝ }
-    ensures { λ r. ⌜ now (out .exit) ≡ placed (now (out .entry)) at (shown x) ⌝ }
+    ensures { λ r. ⌜ r ≡ positionAfter (now (out .entry)) at (shown x) ⌝ }
+    ensures { λ r. ⌜ now (out .exit) ≡ putAt (now (out .entry)) at (shown x) ⌝ }
 {
     if stands_as_itself(x) {
         return put(out, at, &[x]);
@@ -87,10 +87,10 @@ fn room_after(room: usize, octets: &[u8]) -> Room
     Room::Left(left)
 }
 
-// All of a field from `at` on, or nothing; the next place.
+// All of a field from `at` on, or nothing; the next position.
 pub fn put_field(out: &mut [u8], at: usize, octets: &[u8]) -> usize
-    ensures { λ r. ⌜ r ≡ placeAfter (now (out .entry)) at (field (now (octets .entry))) ⌝ }
-    ensures { λ r. ⌜ now (out .exit) ≡ placed (now (out .entry)) at (field (now (octets .entry))) ⌝ }
+    ensures { λ r. ⌜ r ≡ positionAfter (now (out .entry)) at (field (now (octets .entry))) ⌝ }
+    ensures { λ r. ⌜ now (out .exit) ≡ putAt (now (out .entry)) at (field (now (octets .entry))) ⌝ }
 {
     if octets.len() == 0 {
         return put(out, at, b"-");
@@ -113,7 +113,7 @@ pub fn put_field(out: &mut [u8], at: usize, octets: &[u8]) -> usize
 
 // A number and the octets after it, where both have room.
 fn put_number(out: &mut [u8], at: usize, n: u16, after: &[u8]) -> usize
-    ensures { λ r. ⌜ PlacedInRoom (now (out .entry)) at (decimal n ++ now (after .entry)) r (now (out .exit)) ⌝ }
+    ensures { λ r. ⌜ PutInRoom (now (out .entry)) at (decimal n ++ now (after .entry)) r (now (out .exit)) ⌝ }
 {
     let next = put_decimal(out, at, n);
     put(out, next, after)
@@ -121,16 +121,16 @@ fn put_number(out: &mut [u8], at: usize, n: u16, after: &[u8]) -> usize
 
 // A field and the octets after it, where both have room.
 fn put_part(out: &mut [u8], at: usize, octets: &[u8], after: &[u8]) -> usize
-    ensures { λ r. ⌜ PlacedInRoom (now (out .entry)) at (field (now (octets .entry)) ++ now (after .entry)) r (now (out .exit)) ⌝ }
+    ensures { λ r. ⌜ PutInRoom (now (out .entry)) at (field (now (octets .entry)) ++ now (after .entry)) r (now (out .exit)) ⌝ }
 {
     let next = put_field(out, at, octets);
     put(out, next, after)
 }
 
-// The report's first line, or nothing where it does not fit; the next place.
+// The report's first line, or nothing where it does not fit; the next position.
 pub fn put_header(out: &mut [u8], at: usize, count: u16) -> usize
-    ensures { λ r. ⌜ r ≡ placeAfter (now (out .entry)) at (headerLine count) ⌝ }
-    ensures { λ r. ⌜ now (out .exit) ≡ placed (now (out .entry)) at (headerLine count) ⌝ }
+    ensures { λ r. ⌜ r ≡ positionAfter (now (out .entry)) at (headerLine count) ⌝ }
+    ensures { λ r. ⌜ now (out .exit) ≡ putAt (now (out .entry)) at (headerLine count) ⌝ }
 {
     if out.len() < at {
         return at;
@@ -174,7 +174,7 @@ pub fn line_fits(
     true
 }
 
-// The line of an entry, or nothing where it does not fit; the next place.
+// The line of an entry, or nothing where it does not fit; the next position.
 pub fn put_entry_line(
     out: &mut [u8],
     at: usize,
@@ -184,8 +184,8 @@ pub fn put_entry_line(
     to_server: &[u8],
     to_client: &[u8],
 ) -> usize
-    ensures { λ r. ⌜ r ≡ placeAfter (now (out .entry)) at (entryLine n (doneOf taken number (now («to_server» .entry)) (now («to_client» .entry)))) ⌝ }
-    ensures { λ r. ⌜ now (out .exit) ≡ placed (now (out .entry)) at (entryLine n (doneOf taken number (now («to_server» .entry)) (now («to_client» .entry)))) ⌝ }
+    ensures { λ r. ⌜ r ≡ positionAfter (now (out .entry)) at (entryLine n (doneOf taken number (now («to_server» .entry)) (now («to_client» .entry)))) ⌝ }
+    ensures { λ r. ⌜ now (out .exit) ≡ putAt (now (out .entry)) at (entryLine n (doneOf taken number (now («to_server» .entry)) (now («to_client» .entry)))) ⌝ }
 {
     if !line_fits(out.len(), at, n, taken, number, to_server, to_client) {
         return at;

@@ -26,7 +26,7 @@ high-low file at h l = rw (h, l)
 
 -- ---- one entry
 
--- an entry of the table at a place, by the octets of the file
+-- an entry of the table at a position, by the octets of the file
 pub entry-at : (file : List ℕ) (at : ℕ) → entryOf (drop at file) ≡ record { kind = getD file at 0; zero = getD file (at + 1) 0; length = pairAt file (at + 2) }
 unfolding entryOf pairAt
 entry-at file at = rw (getD-drop at file 0 0, getD-drop at file 1 0, getD-drop at file 2 0, getD-drop at file 3 0, add-zero at, add-assoc at 2 1)
@@ -37,13 +37,13 @@ kind-at file at = ap (λ (e : Entry). e .kind) (entry-at file at)
 pub length-at : (file : List ℕ) (at : ℕ) → entryOf (drop at file) .length ≡ pairAt file (at + 2)
 length-at file at = ap (λ (e : Entry). e .length) (entry-at file at)
 
--- the first of n entries that stand at a place, and the others
+-- the first of n entries that stand at a position, and the others
 pub entries-next : (file : List ℕ) (at n : ℕ) → 0 < n → entries n (drop at file) ≡ entryOf (drop at file) ∷ entries (n - 1) (drop (at + 4) file)
 unfolding entries
 entries-next file at zero h = absurd (omega arith)
 entries-next file at (suc n) h = let k : suc n - 1 ≡ n = omega arith in rw (drop-drop 4 at file, k)
 
--- the entry at a place is right by itself
+-- the entry at a position is right by itself
 module _ (file : List ℕ) (at : ℕ) where
   pub zero-wrong : (getD file (at + 1) 0 ≡ 0 → ⊥) → goodEntry (entryOf (drop at file)) ≡ false
   unfolding goodEntry
@@ -102,7 +102,7 @@ module _ (size total : ℕ) where
     unfolding judged noSetups bodiesLength
     right-entry k h = rw (ne-eqb (e .kind) 4 k, h, add-assoc total (e .length) (bodiesLength es))
 
--- the entries being those that are left of the table, from a place of the file on
+-- the entries being those that are left of the table, from a position of the file on
 module _ (file : List ℕ) (size total at left : ℕ) where
   module _ (more : 0 < left) where
     pub setup-again : getD file at 0 ≡ 4 → judged size total (entries left (drop at file)) ≡ Verdict.WrongTable

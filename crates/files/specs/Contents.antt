@@ -8,7 +8,7 @@ use lib.ListN.{length, getD, take, drop}
 use Rattle.rules.specs.Octets.{choose, within}
 use Rattle.files.specs.declared.Verdict.{Verdict}
 
--- "high octet first": the number of the two octets at a place
+-- "high octet first": the number of the two octets at a position
 unfoldable pub pairAt : List ℕ → ℕ → ℕ
 pairAt s i = getD s i 0 * 256 + getD s (i + 1) 0
 

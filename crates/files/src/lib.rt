@@ -21,7 +21,7 @@ fn octet_at(file: &[u8], at: usize) -> u8
     file[at]
 }
 
-// The number of the two octets at a place, high octet first.
+// The number of the two octets at a position, high octet first.
 pub fn pair_at(file: &[u8], at: usize) -> usize
     ensures { λ r. ⌜ r ≡ pairAt (now (file .entry)) at ⌝ }
     ensures { λ r. ⌜ r < 65536 ⌝ }
@@ -32,7 +32,7 @@ pub fn pair_at(file: &[u8], at: usize) -> usize
     octet_at(file, at) as usize * 256 + octet_at(file, at + 1) as usize
 }
 
-// Whether the entry whose four octets stand at a place is right by itself.
+// Whether the entry whose four octets stand at a position is right by itself.
 fn good_entry(file: &[u8], at: usize) -> bool
     requires { ⌜ at + 4 ≤ length (now file) ⌝ }
     ensures { λ r. ⌜ r ≡ goodEntry (entryOf (drop at (now (file .entry)))) ⌝ }

@@ -2,7 +2,7 @@
 ghost use mathlib.Core.Path.{_≡_};
 ghost use mathlib.Core.List.{_++_, _∷_, []};
 ghost use lib.ListN.{length};
-ghost use Rattle.output.specs.Buffer.{placed, placeAfter};
+ghost use Rattle.output.specs.Buffer.{putAt, positionAfter};
 ghost use Rattle.gives.specs.Text.{givesText};
 
 // What an octet gives: nothing since it is held; nothing; itself; the held octets and itself; or a line of the gateway's.
@@ -40,8 +40,8 @@ pub fn put_gives(
     held: &[u8],
     x: u8,
 ) -> usize
-    ensures { λ r. ⌜ r ≡ placeAfter (now (out .entry)) at (givesText mapped (now (held .entry)) x gives) ⌝ }
-    ensures { λ r. ⌜ now (out .exit) ≡ placed (now (out .entry)) at (givesText mapped (now (held .entry)) x gives) ⌝ }
+    ensures { λ r. ⌜ r ≡ positionAfter (now (out .entry)) at (givesText mapped (now (held .entry)) x gives) ⌝ }
+    ensures { λ r. ⌜ now (out .exit) ≡ putAt (now (out .entry)) at (givesText mapped (now (held .entry)) x gives) ⌝ }
 {
     match gives {
         Gives::Held => at,
@@ -56,16 +56,16 @@ pub fn put_gives(
 
 // One octet as a slice of its own.
 fn put_octet(out: &mut [u8], at: usize, x: u8) -> usize
-    ensures { λ r. ⌜ r ≡ placeAfter (now (out .entry)) at (x ∷ []) ⌝ }
-    ensures { λ r. ⌜ now (out .exit) ≡ placed (now (out .entry)) at (x ∷ []) ⌝ }
+    ensures { λ r. ⌜ r ≡ positionAfter (now (out .entry)) at (x ∷ []) ⌝ }
+    ensures { λ r. ⌜ now (out .exit) ≡ putAt (now (out .entry)) at (x ∷ []) ⌝ }
 {
     output::put(out, at, &[x])
 }
 
-// A line's octets and one more behind them, all or nothing; the next place.
+// A line's octets and one more behind them, all or nothing; the next position.
 pub fn put_line(out: &mut [u8], at: usize, held: &[u8], x: u8) -> usize
-    ensures { λ r. ⌜ r ≡ placeAfter (now (out .entry)) at (now (held .entry) ++ (x ∷ [])) ⌝ }
-    ensures { λ r. ⌜ now (out .exit) ≡ placed (now (out .entry)) at (now (held .entry) ++ (x ∷ [])) ⌝ }
+    ensures { λ r. ⌜ r ≡ positionAfter (now (out .entry)) at (now (held .entry) ++ (x ∷ [])) ⌝ }
+    ensures { λ r. ⌜ now (out .exit) ≡ putAt (now (out .entry)) at (now (held .entry) ++ (x ∷ [])) ⌝ }
 {
     if out.len() < at {
         return at;

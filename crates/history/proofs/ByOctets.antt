@@ -39,7 +39,7 @@ use Rattle.rules.specs.ToClient.{
   held,
 }
 use Rattle.rules.specs.declared.Kind.{Kind}
-use Rattle.history.specs.ByOctets.{Client, lineEndGives, clientGives, byOctets, clientAfter}
+use Rattle.history.specs.ByOctets.{Client, lineEndGives, clientGives, byOctets, clientStateAfter}
 
 -- ---- the judged length
 
@@ -382,8 +382,8 @@ module _ (rules : LineRules) where
   -- ---- cut anywhere; more octets only add
 
   pub cut-anywhere : (c : Client rules) (xs ys : List ℕ) (atEnd : Bool)
-      → byOctets rules c (xs ++ ys) atEnd ≡ byOctets rules c xs false ++ byOctets rules (clientAfter rules c xs) ys atEnd
-  unfolding byOctets clientAfter choose
+      → byOctets rules c (xs ++ ys) atEnd ≡ byOctets rules c xs false ++ byOctets rules (clientStateAfter rules c xs) ys atEnd
+  unfolding byOctets clientStateAfter choose
   cut-anywhere c [] ys atEnd = refl
   cut-anywhere c (x ∷ xs) ys atEnd =
       rw append-assoc
@@ -394,7 +394,7 @@ module _ (rules : LineRules) where
   pub reading-grows : (st : rules .LineState) (xs ys : List ℕ) (atEnd : Bool)
       → (added : List ℕ) × (readToServer rules st (xs ++ ys) atEnd ≡ readToServer rules st xs false ++ added)
   reading-grows st xs ys atEnd =
-      let added : List ℕ = byOctets rules (clientAfter rules (freshClient st) xs) ys atEnd in (
+      let added : List ℕ = byOctets rules (clientStateAfter rules (freshClient st) xs) ys atEnd in (
         added,
         by-octets st (xs ++ ys) atEnd ∙ cut-anywhere (freshClient st) xs ys atEnd
             ∙ ap (λ (l : List ℕ). l ++ added) (sym (by-octets st xs false)),

@@ -17,7 +17,7 @@ use Rattle.steps.specs.declared.Fixed.{Fixed}
 use Rattle.steps.specs.Steps.{State, Step, octetStep}
 use Rattle.places.specs.Places.{isEnded}
 use Rattle.records.specs.Sound.{directionOf, sound, refusalOf}
-use Rattle.session.specs.Calls.{stateOf, fixedOf, takenFor, sessionAfter, Outcome, refused, unlessRefused, outcome, arrived, endStep, endOutcome, ended as sessionEnded}
+use Rattle.session.specs.Calls.{stateOf, fixedOf, takenFor, sessionAfter, Outcome, refused, unlessRefused, outcome, arrived, endStep, endOutcome, endCalled as sessionEnded}
 use Rattle.steps.specs.Takes.{Took, stopOf, takes}
 use Rattle.records.proofs.Refusals.{refusal-cases}
 use Rattle.steps.proofs.Stops.{unless-stopped}

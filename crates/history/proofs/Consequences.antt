@@ -33,13 +33,13 @@ use Rattle.rules.specs.Demand3.{
   Answering,
   RefusedChangesNothing,
 }
-use Rattle.rules.proofs.Consequences.{same-client as any-same-client, same-history as any-same-history}
+use Rattle.rules.proofs.Consequences.{any-same-client, any-same-history}
 use Rattle.rules.specs.declared.Answer.{Answer}
 use Rattle.records.specs.declared.Session.{Session}
 use Rattle.steps.specs.declared.Fixed.{Fixed}
 use Rattle.steps.specs.Steps.{State, Step, octetStep}
 use Rattle.steps.specs.Takes.{Took, stopOf, takes}
-use Rattle.session.specs.Calls.{stateOf, fixedOf, Outcome, refused, outcome, arrived, endOutcome, ended as sessionEnded}
+use Rattle.session.specs.Calls.{stateOf, fixedOf, Outcome, refused, outcome, arrived, endOutcome, endCalled as sessionEnded}
 use Rattle.steps.proofs.Stops.{stop-cases, unless-stopped}
 use Rattle.history.specs.Gateway.{outcomeOf, gateway}
 use Rattle.history.proofs.ByOctets.{reading-grows}

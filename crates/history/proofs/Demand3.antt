@@ -33,7 +33,7 @@ use Rattle.rules.specs.Demand3.{
   Return,
   Made,
   Calls,
-  none,
+  noCalls,
   next,
   itemsOf as madeItems,
   historyOf,
@@ -128,7 +128,7 @@ module _ (f : Fixed) (rules : LineRules) (agree : Agrees f rules) where
       }
 
   holds : {r z : Session} {l : List (Made gateway)} → Calls gateway r l z → (c : Client rules) (v : ServerState) → Stays agree r c v → Holds r c v l z
-  holds {r} none c v s = holds-none r c v s
+  holds {r} noCalls c v s = holds-none r c v s
   holds (next {r = r} {z = z} {c = call} {t = t} {l = l} p rest) c v s =
       let m : Makes agree r c v (itemsOf call (outcomeOf r call)) (outcomeOf r call) = makes f rules agree r c v call s in
       let now : Stays agree (outcomeOf r call .called .session) (m .done .client) (m .done .server) =

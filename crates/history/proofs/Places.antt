@@ -47,7 +47,7 @@ use Rattle.queue.specs.declared.Owes.{Owes}
 use Rattle.upstream.specs.declared.ClientEffect.{ClientEffect}
 use Rattle.downstream.specs.declared.ServerEffect.{ServerEffect}
 use Rattle.gives.specs.Text.{givesText}
-use Rattle.places.specs.Places.{at, flowsOrEnded, passesFromNow}
+use Rattle.places.specs.Places.{at, isFlowingOrEnded, directionFromNow}
 use Rattle.upstream.specs.Upstream.{commandEffect, judgedEffect, joinEffect, placeEffect, clientEffectOf}
 use Rattle.downstream.specs.Downstream.{passiveEffect, kindEffect, headEffect, lineGives, wholeLine, flowingLine, replyOctet, replyEffect}
 use Rattle.steps.specs.declared.Fixed.{Fixed}
@@ -106,8 +106,8 @@ module _ {Kept : List ℕ → List ℕ → Type 0} where
   held-octets passing f = refl
   held-octets ended f = refl
 
-  pub flows-or-ended : {p : Place} {n : ℕ} {line : List ℕ} {q : Reading} → Stands Kept p n line q → Full line → flowsOrEnded p ≡ readFlowsOrEnded q
-  unfolding flowsOrEnded readFlowsOrEnded
+  pub flows-or-ended : {p : Place} {n : ℕ} {line : List ℕ} {q : Reading} → Stands Kept p n line q → Full line → isFlowingOrEnded p ≡ readFlowsOrEnded q
+  unfolding isFlowingOrEnded readFlowsOrEnded
   flows-or-ended (holding {n = n} {line = line} h) f = rw (whole (take n line) (omega (arith, length-take-le n line (omega arith))))
   flows-or-ended (flowing {l = l} k g) f = rw (long l k)
   flows-or-ended passing f = refl
@@ -115,7 +115,7 @@ module _ {Kept : List ℕ → List ℕ → Type 0} where
 
   -- all octets pass from now on
   pub passes-on : {p : Place} {n : ℕ} {line : List ℕ} {q : Reading} → Stands Kept p n line q
-      → Stands Kept (passesFromNow (at p n) p .place) (passesFromNow (at p n) p .held) line (readPassesFromNow q)
+      → Stands Kept (directionFromNow (at p n) p .place) (directionFromNow (at p n) p .held) line (readPassesFromNow q)
   passes-on (holding h) = passing
   passes-on (flowing k g) = passing
   passes-on passing = passing

@@ -10,7 +10,7 @@ use Rattle.rules.specs.Replies.{headAnswers, withoutAnswers, authAtHead}
 use Rattle.rules.specs.ToClient.{
   Place as Reading,
   ServerStep,
-  serverStep,
+  serverStepTo,
   held,
   flowsOrEnded as readFlowsOrEnded,
   ownAnswers,
@@ -57,7 +57,7 @@ module _ (s : State) (n : ℕ) (given : List ℕ) {q : Reading} {ks₀ : List Ki
       rw now at (queue-leave queue (leaving s n))
 
   auth-settled : (ks : List Kind) (text : List ℕ) → Left s n ks text → (a : Bool) → authAtHead ks ≡ a
-      → Settled s n given (authStep (serverStep q ks u (given ++ text)))
+      → Settled s n given (authStep (serverStepTo q ks u (given ++ text)))
   unfolding authStep settledState settledText isAuthNext choose
   auth-settled ks text l true e =
       let next : authAtHead (owedFrom s (leaving s n)) ≡ true = ap authAtHead (l .owed) ∙ e in
@@ -77,7 +77,7 @@ module _ (s : State) (n : ℕ) (given : List ℕ) {q : Reading} {ks₀ : List Ki
       })
 
   answers-settled : (ks : List Kind) → drop n ks₀ ≡ ks → (b : Bool) → blocked (s .control) ≡ b
-      → Settled s n given (authStep (choose b (serverStep q ks u given) (serverStep q (withoutAnswers ks) u (given ++ headAnswers ks))))
+      → Settled s n given (authStep (choose b (serverStepTo q ks u given) (serverStepTo q (withoutAnswers ks) u (given ++ headAnswers ks))))
   unfolding choose
   answers-settled ks e true p = rw append-nil at (auth-settled ks [] (left s n ks₀ ks queue e true p) (authAtHead ks) refl)
   answers-settled ks e false p = auth-settled (withoutAnswers ks) (headAnswers ks) (left s n ks₀ ks queue e false p) (authAtHead (withoutAnswers ks)) refl

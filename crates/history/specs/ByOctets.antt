@@ -30,6 +30,6 @@ byOctets rules c (x ∷ xs) atEnd =
     clientGives rules (c .lineState) (c .place) x ++ byOctets rules next xs atEnd
 
 -- the client's state after a text
-unfoldable pub clientAfter : (rules : LineRules) → Client rules → List ℕ → Client rules
-clientAfter rules c [] = c
-clientAfter rules c (x ∷ xs) = clientAfter rules (clientOctet rules (c .lineState) (c .place) x .state) xs
+unfoldable pub clientStateAfter : (rules : LineRules) → Client rules → List ℕ → Client rules
+clientStateAfter rules c [] = c
+clientStateAfter rules c (x ∷ xs) = clientStateAfter rules (clientOctet rules (c .lineState) (c .place) x .state) xs

@@ -11,8 +11,8 @@ use Rattle.rules.specs.History.{Item, octet, end, sameSide}
 use Rattle.rules.specs.Demand3.{Made, FromFresh, historyOf, goneToServer, goneToClient}
 use Rattle.rules.specs.Exchanges.{Exchange, exchange, allOn, greeting, serverSays, printed}
 use Rattle.records.specs.declared.Session.{Session}
-use Rattle.session.specs.Calls.{Outcome, prepared, arrived, ended}
-use Rattle.history.specs.Gateway.{numberOf, gateway}
+use Rattle.session.specs.Calls.{Outcome, prepared, arrived, endCalled}
+use Rattle.history.specs.Gateway.{directionNumber, gateway}
 
 -- ---- of all calls, wherever the pieces are cut and whatever the rooms
 
@@ -34,23 +34,23 @@ shortOnes [] = []
 shortOnes (e ∷ es) = choose (leb (length (e .said)) 64) (e ∷ shortOnes es) (shortOnes es)
 
 -- octets that arrive together, or an end
-pub data Said : Type 0 where
-  says : Side → List ℕ → Said
-  ends : Side → Said
+pub data Piece : Type 0 where
+  says : Side → List ℕ → Piece
+  ends : Side → Piece
 
 -- a history with an arrival for each octet
-unfoldable pub singly : List Item → List Said
+unfoldable pub singly : List Item → List Piece
 singly [] = []
 singly (octet d x ∷ is) = says d (x ∷ []) ∷ singly is
 singly (end d ∷ is) = ends d ∷ singly is
 
 -- a history with an arrival for all octets that a side says in a row
-unfoldable pub ontoPiece : Side → ℕ → List Said → List Said
+unfoldable pub ontoPiece : Side → ℕ → List Piece → List Piece
 ontoPiece d x [] = says d (x ∷ []) ∷ []
 ontoPiece d x (says e xs ∷ ps) = choose (sameSide d e) (says d (x ∷ xs) ∷ ps) (says d (x ∷ []) ∷ says e xs ∷ ps)
 ontoPiece d x (ends e ∷ ps) = says d (x ∷ []) ∷ ends e ∷ ps
 
-unfoldable pub wholly : List Item → List Said
+unfoldable pub wholly : List Item → List Piece
 wholly [] = []
 wholly (octet d x ∷ is) = ontoPiece d x (wholly is)
 wholly (end d ∷ is) = ends d ∷ wholly is
@@ -59,12 +59,12 @@ wholly (end d ∷ is) = ends d ∷ wholly is
 abbrev pub room : ℕ
 room = 2000
 
-unfoldable pub saidOutcome : Session → Said → Outcome
-saidOutcome r (says d xs) = arrived r (numberOf d) xs room room
-saidOutcome r (ends d) = ended r (numberOf d) room room
+unfoldable pub saidOutcome : Session → Piece → Outcome
+saidOutcome r (says d xs) = arrived r (directionNumber d) xs room room
+saidOutcome r (ends d) = endCalled r (directionNumber d) room room
 
 -- what has gone to the server and to the client
-unfoldable pub gone : Session → List Said → List ℕ × List ℕ
+unfoldable pub gone : Session → List Piece → List ℕ × List ℕ
 gone r [] = ([], [])
 gone r (p ∷ ps) =
     let o = saidOutcome r p in
@@ -72,7 +72,7 @@ gone r (p ∷ ps) =
     (o .toServer ++ rest .0, o .toClient ++ rest .1)
 
 -- an exchange as the calls have it, after the greeting
-unfoldable pub calledAs : (List Item → List Said) → Exchange → Exchange
+unfoldable pub calledAs : (List Item → List Piece) → Exchange → Exchange
 calledAs cut e =
     let g = gone (prepared (allOn .client) (allOn .mapped) (allOn .flags) .session) (cut (serverSays greeting ++ e .said)) in
     exchange (e .said) (g .0) (g .1)

@@ -10,7 +10,7 @@ use Rattle.rules.specs.declared.Answer.{Answer}
 use Rattle.records.specs.declared.Session.{Session}
 use Rattle.session.specs.declared.Called.{Called}
 use Rattle.session.specs.declared.DirectionOffset.{DirectionOffset}
-use Rattle.session.specs.Calls.{Outcome, prepared, arrived, ended as sessionEnded, offset as sessionOffset}
+use Rattle.session.specs.Calls.{Outcome, prepared, arrived, endCalled as sessionEnded, offset as sessionOffset}
 
 -- "the record of a setup that answered 0". Nothing is asked of the addresses: the arrays of the record have their lengths from setup on
 pub record Fresh (su : Setup) (r : Session) : Type 0 where
@@ -45,14 +45,14 @@ pub record Promise (r : Session) (c : Call) (t : Return Session) : Type 0 where
   pub serverBuffer : t .serverBuffer ≡ outcomeOf r c .toServer ++ drop (t .toServer) (lentServer c)
   pub clientBuffer : t .clientBuffer ≡ outcomeOf r c .toClient ++ drop (t .toClient) (lentClient c)
 
-abbrev pub numberOf : Side → ℕ
-numberOf client = 0
-numberOf server = 1
+abbrev pub directionNumber : Side → ℕ
+directionNumber client = 0
+directionNumber server = 1
 
 -- the number that offset returns; it returns one for both directions
-abbrev pub offsetNumber : DirectionOffset → ℕ
-offsetNumber (DirectionOffset.Is n) = n
-offsetNumber DirectionOffset.UnknownDirection = 0
+abbrev pub returnedOffset : DirectionOffset → ℕ
+returnedOffset (DirectionOffset.Is n) = n
+returnedOffset DirectionOffset.UnknownDirection = 0
 
 abbrev pub gateway : Gateway
 gateway =
@@ -60,5 +60,5 @@ gateway =
       Session = Session;
       Fresh = Fresh;
       Promise = Promise;
-      offset = λ r side. offsetNumber (sessionOffset r (numberOf side));
+      offset = λ r side. returnedOffset (sessionOffset r (directionNumber side));
     }

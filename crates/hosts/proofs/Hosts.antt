@@ -9,24 +9,24 @@ use lib.ListN.{length, replicate, length-replicate}
 use Rattle.rules.specs.Answers.{answerNumber}
 use Rattle.rules.specs.Octets.{every}
 use Rattle.rules.specs.Setup.{Setup, setupAnswer}
-use Rattle.rules.specs.Demand3.{Call, arrival, ending, Return, Made, Calls, none, next, lentServer, lentClient, itemsOf, historyOf, goneToServer, goneToClient, Demand3}
+use Rattle.rules.specs.Demand3.{Call, arrival, ending, Return, Made, Calls, noCalls, next, lentServer, lentClient, itemsOf, historyOf, goneToServer, goneToClient, Demand3}
 use Rattle.rules.specs.declared.Answer.{Answer}
 use Rattle.records.specs.Layout.{imageSize}
 use Rattle.records.specs.declared.Session.{Session}
 use Rattle.session.specs.declared.Prepared.{Prepared}
 use Rattle.session.specs.Calls.{Outcome, prepared, freshSession}
-use Rattle.answers.specs.Table.{Call as TableCall, Result, arrival as arrivalResult, ending as endingResult}
+use Rattle.answers.specs.Table.{Situation as TableCall, Result, ofArrival as arrivalResult, ofEnd as endingResult}
 use Rattle.answers.proofs.Table.{setup-zero}
 use Rattle.history.specs.Gateway.{Fresh as SessionFresh, Promise as SessionPromise, outcomeOf, gateway}
 use Rattle.history.proofs.Demand3.{demand3}
-use Rattle.output.specs.Buffer.{placed}
+use Rattle.output.specs.Buffer.{putAt}
 use Rattle.image.specs.Image.{imageOf, sessionOf}
-use Rattle.image.specs.Lent.{arrivedAt, endedAt, imageAfter, serverAfter, clientAfter}
+use Rattle.image.specs.Lent.{arrivedOn, endedOn, imageAfter, serverAfter, clientAfter}
 use Rattle.relay.specs.Host.{preparedFrom}
 use Rattle.relay.specs.Carried.{Holds}
 use Rattle.relay.proofs.Calls.{from-slices, room}
 use Rattle.relay.proofs.Carrying.{good-flags, begun, carried}
-use Rattle.hosts.specs.Memory.{Fresh, outcomeAt, Promise, host, HostAnswering}
+use Rattle.hosts.specs.Memory.{HostFresh, outcomeAt, HostPromise, host, HostAnswering}
 
 -- ---- an answer by its number
 
@@ -70,7 +70,7 @@ result s (arrival d octets out back) = arrivalResult octets
 result s (ending d out back) = endingResult
 
 outcome-at : (image : List ℕ) (c : Call) → outcomeAt image c ≡ outcomeOf (sessionOf image) c
-unfolding outcomeAt arrivedAt endedAt outcomeOf
+unfolding outcomeAt arrivedOn endedOn outcomeOf
 outcome-at image (arrival d octets out back) = refl
 outcome-at image (ending d out back) = refl
 
@@ -87,7 +87,7 @@ told t s =
       clientBuffer = t .clientBuffer;
     }
 
-module _ (image : List ℕ) (s : Session) (h : Holds image s) (c : Call) (t : Return (List ℕ)) (p : Promise image c t) where
+module _ (image : List ℕ) (s : Session) (h : Holds image s) (c : Call) (t : Return (List ℕ)) (p : HostPromise image c t) where
   here : outcomeAt image c ≡ outcomeOf s c
   here = outcome-at image c ∙ ap (λ (r : Session). outcomeOf r c) (h .read)
 
@@ -126,7 +126,7 @@ record Run (s : Session) (l : List (Made host)) (z : List ℕ) : Type 0 where
   toClient : goneToClient gateway made ≡ goneToClient host l
 
 run : {image z : List ℕ} {l : List (Made host)} (s : Session) → Holds image s → Calls host image l z → Run s l z
-run s h none = record { made = []; last = s; calls = none; holds = h; history = refl; toServer = refl; toClient = refl }
+run s h noCalls = record { made = []; last = s; calls = noCalls; holds = h; history = refl; toServer = refl; toClient = refl }
 run {image} {z} s h (next {c = c} {t = t} {l = l} p rest) =
     let then = outcomeOf s c .called .session in
     let r = run then (holds-then image s h c t p) rest in
@@ -142,7 +142,7 @@ run {image} {z} s h (next {c = c} {t = t} {l = l} p rest) =
 
 -- ---- demand 3
 
-module _ (su : Setup) (image : List ℕ) (f : Fresh su image) where
+module _ (su : Setup) (image : List ℕ) (f : HostFresh su image) where
   done : preparedFrom (su .client) (su .mapped) (su .flags) .answer ≡ Answer.Done
   done = same-answer _ _ (room (f .memory) (preparedFrom (su .client) (su .mapped) (su .flags)) (f .room) refl ∙ f .number)
 
@@ -183,13 +183,13 @@ unfolding prepared
 setup-answer su e f = ap (λ (p : Prepared). p .answer) (from-slices (su .client) (su .mapped) (su .flags) e f)
 
 there : (su : Setup) → length (su .client) ≡ 16 → length (su .mapped) ≡ 4 → every (λ n. leb n 255) (su .mapped) ≡ true
-    → setupAnswer (su .flags) ≡ Answer.Done → (image : List ℕ) × Fresh su image
+    → setupAnswer (su .flags) ≡ Answer.Done → (image : List ℕ) × HostFresh su image
 there su e f octets zero-told =
     let p = preparedFrom (su .client) (su .mapped) (su .flags) in
     let blank : List ℕ = replicate imageSize 0 in
     let size : length blank ≡ imageSize = length-replicate {A = ℕ} imageSize 0 in
     let long : imageSize ≤ length blank = omega arith in (
-      placed blank 0 (imageOf (p .session)),
+      putAt blank 0 (imageOf (p .session)),
       record {
         memory = blank;
         room = long;
@@ -201,10 +201,10 @@ there su e f octets zero-told =
       },
     )
 
-only : (su : Setup) (image : List ℕ) → Fresh su image → setupAnswer (su .flags) ≡ Answer.Done
+only : (su : Setup) (image : List ℕ) → HostFresh su image → setupAnswer (su .flags) ≡ Answer.Done
 only su image f = sym (setup-answer su (f .client) (f .mapped)) ∙ done su image f
 
-call-returns : (image : List ℕ) (c : Call) → (t : Return (List ℕ)) × Promise image c t
+call-returns : (image : List ℕ) (c : Call) → (t : Return (List ℕ)) × HostPromise image c t
 call-returns image c =
     let o = outcomeAt image c in (
       record {

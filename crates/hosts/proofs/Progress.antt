@@ -18,9 +18,9 @@ use Rattle.session.specs.Calls.{deadSession}
 use Rattle.answers.proofs.Lengths.{isOctet, octets-all}
 use Rattle.answers.proofs.Bounds.{progress}
 use Rattle.image.specs.Image.{part, fieldsIn, isImage, sessionOf}
-use Rattle.image.specs.Lent.{arrivedAt}
+use Rattle.image.specs.Lent.{arrivedOn}
 use Rattle.image.proofs.Back.{dead-sized}
-use Rattle.hosts.specs.Memory.{outcomeAt, Promise}
+use Rattle.hosts.specs.Memory.{outcomeAt, HostPromise}
 use Rattle.hosts.proofs.Hosts.{same-answer}
 
 dead-octets : every isOctet (deadSession .mapped) ≡ true
@@ -61,8 +61,8 @@ module _ (image : List ℕ) (octets : (i : ℕ) → getD image i 0 < 256) where
   unfolding sessionOf
   image-shaped = by-image (isImage image) refl
 
-  pub progress-promised : (d : ℕ) (arriving out back : List ℕ) (t : Return (List ℕ)) → Promise image (arrival d arriving out back) t
+  pub progress-promised : (d : ℕ) (arriving out back : List ℕ) (t : Return (List ℕ)) → HostPromise image (arrival d arriving out back) t
       → Progress arriving (length out) (length back) (t .answer) (t .taken)
-  unfolding outcomeAt arrivedAt
+  unfolding outcomeAt arrivedOn
   progress-promised d arriving out back t p =
       progress (sessionOf image) d arriving (length out) (length back) image-shaped (same-answer _ _ (p .number)) (p .taken)

@@ -14,15 +14,15 @@ use Rattle.rules.specs.Demand3.{Call, lentServer, lentClient}
 use Rattle.rules.specs.declared.Answer.{Answer}
 use Rattle.records.specs.Layout.{imageSize}
 use Rattle.octets.proofs.Ranges.{and-both}
-use Rattle.output.specs.Buffer.{placed}
+use Rattle.output.specs.Buffer.{putAt}
 use Rattle.records.specs.declared.Session.{Session}
 use Rattle.session.specs.declared.Prepared.{Prepared}
 use Rattle.session.specs.Calls.{offset}
-use Rattle.history.specs.Gateway.{numberOf, offsetNumber}
+use Rattle.history.specs.Gateway.{directionNumber, returnedOffset}
 use Rattle.image.specs.Image.{imageOf}
 use Rattle.image.specs.Lent.{imageAfter, serverAfter, clientAfter}
 use Rattle.relay.specs.Host.{preparedFrom, setupNumber, countsAfter, offsetAfter}
-use Rattle.hosts.specs.Memory.{Fresh, outcomeAt, Promise, toldBy}
+use Rattle.hosts.specs.Memory.{HostFresh, outcomeAt, HostPromise, toldBy}
 
 -- ---- a setup that is told 0 had room for the record, and addresses of their lengths
 
@@ -44,8 +44,8 @@ had-lengths client mapped flags true e h =
 had-lengths client mapped flags false e h = five (rw e at h)
 
 pub fresh-promised : (memory client mapped : List ℕ) (flags : ℕ) {n : ℕ} {image : List ℕ} → n ≡ setupNumber memory (preparedFrom client mapped flags)
-    → image ≡ placed memory 0 (imageOf (preparedFrom client mapped flags .session)) → every (λ n. leb n 255) mapped ≡ true → n ≡ answerNumber Answer.Done
-    → Fresh (record { client = client; mapped = mapped; flags = flags }) image
+    → image ≡ putAt memory 0 (imageOf (preparedFrom client mapped flags .session)) → every (λ n. leb n 255) mapped ≡ true → n ≡ answerNumber Answer.Done
+    → HostFresh (record { client = client; mapped = mapped; flags = flags }) image
 unfolding answerNumber
 fresh-promised memory client mapped flags number put octets done =
     let told = sym number ∙ done in
@@ -67,7 +67,7 @@ pub call-promised : (image : List ℕ) (c : Call) (counts : List ℕ) {n : ℕ} 
     → n ≡ answerNumber (outcomeAt image c .called .answer) → image′ ≡ imageAfter image (outcomeAt image c .called)
     → server ≡ serverAfter (outcomeAt image c) (lentServer c) → client ≡ clientAfter (outcomeAt image c) (lentClient c)
     → counts′ ≡ countsAfter (outcomeAt image c .called) counts
-    → (a : Answer) → answerNumber a ≡ n → 3 ≤ length counts → Promise image c (toldBy a counts′ image′ server client)
+    → (a : Answer) → answerNumber a ≡ n → 3 ≤ length counts → HostPromise image c (toldBy a counts′ image′ server client)
 unfolding countsAfter choose
 call-promised image c counts number memory server client told a e room =
     let long = le-leb 3 (length counts) room in
@@ -83,7 +83,7 @@ call-promised image c counts number memory server client told a e room =
 
 -- ---- the offset
 
-set-first : (s : Session) (d : ℕ) (out : List ℕ) → d < 2 → 1 ≤ length out → getD (offsetAfter (offset s d) out) 0 0 ≡ offsetNumber (offset s (numberOf (sideOf d)))
+set-first : (s : Session) (d : ℕ) (out : List ℕ) → d < 2 → 1 ≤ length out → getD (offsetAfter (offset s d) out) 0 0 ≡ returnedOffset (offset s (directionNumber (sideOf d)))
 unfolding offset offsetAfter
 set-first s d [] h room = absurd (omega arith)
 set-first s zero (x ∷ out) h room = refl
@@ -91,5 +91,5 @@ set-first s (suc zero) (x ∷ out) h room = refl
 set-first s (suc (suc d)) (x ∷ out) h room = absurd (omega arith)
 
 pub offset-promised : (s : Session) (d : ℕ) (out : List ℕ) {out′ : List ℕ} → out′ ≡ offsetAfter (offset s d) out → d < 2 → 1 ≤ length out
-    → getD out′ 0 0 ≡ offsetNumber (offset s (numberOf (sideOf d)))
+    → getD out′ 0 0 ≡ returnedOffset (offset s (directionNumber (sideOf d)))
 offset-promised s d out e h room = ap (λ (l : List ℕ). getD l 0 0) e ∙ set-first s d out h room

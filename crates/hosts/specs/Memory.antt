@@ -11,27 +11,27 @@ use Rattle.rules.specs.Setup.{Setup, setupAnswer}
 use Rattle.rules.specs.Demand3.{Call, arrival, ending, Return, Gateway, lentServer, lentClient}
 use Rattle.rules.specs.declared.Answer.{Answer}
 use Rattle.records.specs.Layout.{imageSize}
-use Rattle.output.specs.Buffer.{placed}
+use Rattle.output.specs.Buffer.{putAt}
 use Rattle.session.specs.Calls.{Outcome, offset as sessionOffset}
-use Rattle.history.specs.Gateway.{numberOf, offsetNumber}
+use Rattle.history.specs.Gateway.{directionNumber, returnedOffset}
 use Rattle.image.specs.Image.{imageOf, sessionOf}
-use Rattle.image.specs.Lent.{arrivedAt, endedAt, imageAfter, serverAfter, clientAfter}
+use Rattle.image.specs.Lent.{arrivedOn, endedOn, imageAfter, serverAfter, clientAfter}
 use Rattle.relay.specs.Host.{preparedFrom, setupNumber, countsAfter}
 
 -- "the record of a setup that answered 0": what `fashlemor_setup` left in memory that had room for a record
-pub record Fresh (su : Setup) (image : List ℕ) : Type 0 where
+pub record HostFresh (su : Setup) (image : List ℕ) : Type 0 where
   pub memory : List ℕ
   pub room : imageSize ≤ length memory
   pub client : length (su .client) ≡ 16
   pub mapped : length (su .mapped) ≡ 4
   pub octets : every (λ n. leb n 255) (su .mapped) ≡ true
   pub number : setupNumber memory (preparedFrom (su .client) (su .mapped) (su .flags)) ≡ answerNumber Answer.Done
-  pub put : image ≡ placed memory 0 (imageOf (preparedFrom (su .client) (su .mapped) (su .flags) .session))
+  pub put : image ≡ putAt memory 0 (imageOf (preparedFrom (su .client) (su .mapped) (su .flags) .session))
 
 -- what `fashlemor_arrive` and `fashlemor_end` do
 unfoldable pub outcomeAt : List ℕ → Call → Outcome
-outcomeAt image (arrival d octets s c) = arrivedAt image d octets s c
-outcomeAt image (ending d s c) = endedAt image d s c
+outcomeAt image (arrival d octets s c) = arrivedOn image d octets s c
+outcomeAt image (ending d s c) = endedOn image d s c
 
 -- all that they do, however many counts a host lends: the number n, and memory, buffers and counts then
 pub record Does (image : List ℕ) (c : Call) (counts : List ℕ) (n : ℕ) (image′ server client counts′ : List ℕ) : Type 0 where
@@ -42,7 +42,7 @@ pub record Does (image : List ℕ) (c : Call) (counts : List ℕ) (n : ℕ) (ima
   pub told : counts′ ≡ countsAfter (outcomeAt image c .called) counts
 
 -- what they promise: the number, the three counts, the memory, and the two buffers
-pub record Promise (image : List ℕ) (c : Call) (t : Return (List ℕ)) : Type 0 where
+pub record HostPromise (image : List ℕ) (c : Call) (t : Return (List ℕ)) : Type 0 where
   pub number : answerNumber (t .answer) ≡ answerNumber (outcomeAt image c .called .answer)
   pub taken : t .taken ≡ outcomeAt image c .called .taken
   pub toServer : t .toServer ≡ outcomeAt image c .called .written .server
@@ -69,15 +69,15 @@ abbrev pub host : Gateway
 host =
     record {
       Session = List ℕ;
-      Fresh = Fresh;
-      Promise = Promise;
-      offset = λ image side. offsetNumber (sessionOffset (sessionOf image) (numberOf side));
+      Fresh = HostFresh;
+      Promise = HostPromise;
+      offset = λ image side. returnedOffset (sessionOffset (sessionOf image) (directionNumber side));
     }
 
 -- what keeps demand 3 of a host from being empty: a setup that answers 0, with addresses of their lengths, has a memory,
 -- only such a setup's is fresh, and every call returns
 pub record HostAnswering : Type 0 where
   pub fresh : (su : Setup) → length (su .client) ≡ 16 → length (su .mapped) ≡ 4 → every (λ n. leb n 255) (su .mapped) ≡ true
-      → setupAnswer (su .flags) ≡ Answer.Done → (image : List ℕ) × Fresh su image
-  pub onlyFresh : (su : Setup) (image : List ℕ) → Fresh su image → setupAnswer (su .flags) ≡ Answer.Done
-  pub returns : (image : List ℕ) (c : Call) → (t : Return (List ℕ)) × Promise image c t
+      → setupAnswer (su .flags) ≡ Answer.Done → (image : List ℕ) × HostFresh su image
+  pub onlyFresh : (su : Setup) (image : List ℕ) → HostFresh su image → setupAnswer (su .flags) ≡ Answer.Done
+  pub returns : (image : List ℕ) (c : Call) → (t : Return (List ℕ)) × HostPromise image c t

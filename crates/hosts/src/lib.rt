@@ -8,7 +8,7 @@ ghost use Rattle.rules.specs.Setup.{Setup};
 ghost use Rattle.rules.specs.Demand3.{arrival, ending};
 ghost use Rattle.session.specs.Bounds.{Progress};
 ghost use Rattle.session.specs.Calls.{offset as offsetIn};
-ghost use Rattle.output.specs.Buffer.{placed};
+ghost use Rattle.output.specs.Buffer.{putAt};
 ghost use Rattle.image.specs.Image.{imageOf, sessionOf};
 ghost use Rattle.relay.specs.Host.{preparedFrom, setupNumber, offsetNumber, offsetAfter};
 ghost use Rattle.hosts.specs.Memory.{host, toldBy, Does};
@@ -21,7 +21,7 @@ use rules::Answer;
 // A setup that is told 0 leaves a fresh record in the host's memory.
 pub fn promised_setup(image: &mut [u8], client: &[u8], mapped: &[u8], flags: u8) -> u8
     ensures { λ r. ⌜ r ≡ setupNumber (now (image .entry)) (preparedFrom (now (client .entry)) (now (mapped .entry)) flags) ⌝ }
-    ensures { λ r. ⌜ now (image .exit) ≡ placed (now (image .entry)) 0 (imageOf (preparedFrom (now (client .entry)) (now (mapped .entry)) flags .session)) ⌝ }
+    ensures { λ r. ⌜ now (image .exit) ≡ putAt (now (image .entry)) 0 (imageOf (preparedFrom (now (client .entry)) (now (mapped .entry)) flags .session)) ⌝ }
     ensures { λ r.
         let su : Setup = record { client = now (client .entry); mapped = now (mapped .entry); flags = flags } in
         ⌜ (r ≡ answerNumber Answer.Done → host .Fresh su (now (image .exit))) ⌝ }

@@ -13,9 +13,9 @@ use Rattle.rules.specs.Answers.{wrapped, mostOwed}
 use Rattle.rules.specs.Lines.{mostHeld}
 use Rattle.records.specs.Layout.{numberWidth, ipv6Width, ipv4Width, liveAt, supportedAt, epsvAt, clientPlaceAt, owedAt, clientHeldAt, serverHeldAt, upTakenAt, upWrittenAt, downTakenAt, downWrittenAt, clientAt, mappedAt, kindsAt, commandAt, imageSize, lentSize, linesSize, bitsSize, placesSize, marksSize, numbersSize}
 use Rattle.octets.proofs.Ranges.{and-both}
-use Rattle.output.specs.Buffer.{placed}
+use Rattle.output.specs.Buffer.{putAt}
 use Rattle.image.specs.Image.{
-  bit,
+  markOf,
   placeNumber,
   fourOctets,
   capped,
@@ -24,7 +24,7 @@ use Rattle.image.specs.Image.{
   arraysOf,
   imageOf,
   placeOf,
-  numberAt,
+  countAt,
   isSet,
   part,
   countsAt,
@@ -40,8 +40,8 @@ use Rattle.image.proofs.Back.{capped-same}
 
 -- ---- one value
 
-octet-bit : (n : ℕ) → leb n 1 ≡ true → bit (eqb n 1) ≡ n
-unfolding bit
+octet-bit : (n : ℕ) → leb n 1 ≡ true → markOf (eqb n 1) ≡ n
+unfolding markOf
 octet-bit zero e = refl
 octet-bit (suc zero) e = refl
 octet-bit (suc (suc n)) e = absurd (omega (arith, leb-true (suc (suc n)) 1 e))
@@ -98,24 +98,24 @@ module _ (image : List ℕ) (long : imageSize ≤ length image) (octets : (i : �
       rw (drop-cons image i 0 (omega arith), drop-cons image (suc i) 0 (omega arith), drop-cons image (suc (suc i)) 0 (omega arith), drop-cons image (suc (suc (suc i))) 0 h)
 
   number-value : (i : ℕ)
-      → numberAt image i
+      → countAt image i
       ≡ getD image i 0 + getD image (suc i) 0 * 256 + getD image (suc (suc i)) 0 * 65536 + getD image (suc (suc (suc i))) 0 * 16777216
-  unfolding numberAt
+  unfolding countAt
   number-value i =
       let one : i + 1 ≡ suc i = omega arith in
       let two : i + 2 ≡ suc (suc i) = omega arith in
       let three : i + 3 ≡ suc (suc (suc i)) = omega arith in
       rw (one, two, three)
 
-  number-same : (i : ℕ) → suc (suc (suc i)) < length image → fourOctets (numberAt image i) ≡ part image i numberWidth
+  number-same : (i : ℕ) → suc (suc (suc i)) < length image → fourOctets (countAt image i) ≡ part image i numberWidth
   number-same i h =
-      four-same _ _ _ _ (numberAt image i) (octets i) (octets (suc i)) (octets (suc (suc i))) (octets (suc (suc (suc i)))) (number-value i) ∙ sym (part-four i h)
+      four-same _ _ _ _ (countAt image i) (octets i) (octets (suc i)) (octets (suc (suc i))) (octets (suc (suc (suc i)))) (number-value i) ∙ sym (part-four i h)
 
-  number-low : (i : ℕ) → numberAt image i < 2 ^ 32
+  number-low : (i : ℕ) → countAt image i < 2 ^ 32
   number-low i = omega (arith, number-value i, octets i, octets (suc i), octets (suc (suc i)), octets (suc (suc (suc i))))
 
-  count-same : (i : ℕ) → suc (suc (suc i)) < length image → fourOctets (capped (numberAt image i)) ≡ part image i numberWidth
-  count-same i h = ap fourOctets (capped-same (numberAt image i) (number-low i)) ∙ number-same i h
+  count-same : (i : ℕ) → suc (suc (suc i)) < length image → fourOctets (capped (countAt image i)) ≡ part image i numberWidth
+  count-same i h = ap fourOctets (capped-same (countAt image i) (number-low i)) ∙ number-same i h
 
   numbers-same : numbersOf (fieldsIn image) ≡ part image owedAt numbersSize
   unfolding numbersOf fieldsIn controlIn countsAt
@@ -144,7 +144,7 @@ pub image-long : (image : List ℕ) → isImage image ≡ true → imageSize ≤
 image-long image ok = tests image ok .0
 
 -- the two marks that no call changes
-pub fixed-marks : (image : List ℕ) → isImage image ≡ true → bit (isSet image liveAt) ∷ bit (isSet image supportedAt) ∷ [] ≡ take epsvAt image
+pub fixed-marks : (image : List ℕ) → isImage image ≡ true → markOf (isSet image liveAt) ∷ markOf (isSet image supportedAt) ∷ [] ≡ take epsvAt image
 unfolding marksOf fieldsIn
 fixed-marks image ok =
     let t = tests image ok in
@@ -158,17 +158,17 @@ module _ (image : List ℕ) (ok : isImage image ≡ true) (octets : (i : ℕ) �
   fields-size = ap length fields-same ∙ length-take-le imageSize image (image-long image ok)
 
   -- so it lies in memory already
-  pub lies : placed image 0 (imageOf (fieldsIn image)) ≡ image
+  pub lies : putAt image 0 (imageOf (fieldsIn image)) ≡ image
   lies =
       let long = image-long image ok in
       unchanged image (imageOf (fieldsIn image)) (omega (arith, fields-size)) (fields-same ∙ ap (λ (n : ℕ). take n image) (sym fields-size))
 
-  pub record-lies : placed image 0 (imageOf (sessionOf image)) ≡ image
+  pub record-lies : putAt image 0 (imageOf (sessionOf image)) ≡ image
   unfolding sessionOf choose
   record-lies = rw ok lies
 
   -- a count to which nothing is added
-  pub count-kept : (i : ℕ) → wrapped (numberAt image i + 0) ≡ numberAt image i
+  pub count-kept : (i : ℕ) → wrapped (countAt image i + 0) ≡ countAt image i
   unfolding wrapped
   count-kept i = omega (arith, number-low image (image-long image ok) octets i)
 

@@ -15,7 +15,7 @@ use Rattle.rules.specs.Answers.{Side, client, server, sideOf, answerNumber, sou
 use Rattle.rules.specs.declared.Answer.{Answer}
 use Rattle.rules.specs.Lines.{mostHeld}
 use Rattle.records.specs.Layout.{ipv6Width, ipv4Width, liveAt, supportedAt, epsvAt, upTakenAt, downTakenAt, clientAt, mappedAt, kindsAt, commandAt, replyAt, imageSize, lentMapped, lentKinds, lentCommand, lentReply, lentSize}
-use Rattle.output.specs.Buffer.{placed}
+use Rattle.output.specs.Buffer.{putAt}
 use Rattle.records.specs.declared.Control.{Control}
 use Rattle.records.specs.declared.Counts.{Counts}
 use Rattle.records.specs.declared.Session.{Session}
@@ -30,12 +30,12 @@ use Rattle.steps.proofs.Lent.{from-front, fixed-same}
 use Rattle.arrivals.proofs.Going.{took-all}
 use Rattle.records.proofs.Limits.{counts-holdable}
 use Rattle.session.specs.declared.Called.{Called}
-use Rattle.session.specs.Calls.{Outcome, counted, takenFor, fixedOf, stateOf, sessionAfter, deadSession, refused, unlessRefused, arrived, ended}
+use Rattle.session.specs.Calls.{Outcome, counted, takenFor, fixedOf, stateOf, sessionAfter, deadSession, refused, unlessRefused, arrived, endCalled}
 use Rattle.session.proofs.Outcomes.{Promised, arrives}
 use Rattle.image.specs.declared.arrival.Told.{Told}
-use Rattle.image.specs.Image.{bit, marksIn, marksFrom, numbersFrom, marksOf, numbersOf, arraysOf, imageOf, isSet, part, countsAt, controlIn, fieldsIn, isImage, sessionOf}
-use Rattle.image.specs.Lent.{arrivedAt, endedAt, imageAfter, serverAfter, clientAfter, Tells}
-use Rattle.image.proofs.Patch.{patched, rest-placed}
+use Rattle.image.specs.Image.{markOf, marksIn, marksFrom, numbersFrom, marksOf, numbersOf, arraysOf, imageOf, isSet, part, countsAt, controlIn, fieldsIn, isImage, sessionOf}
+use Rattle.image.specs.Lent.{arrivedOn, endedOn, imageAfter, serverAfter, clientAfter, Tells}
+use Rattle.image.proofs.Patch.{patched, rest-put}
 use Rattle.image.proofs.Writing.{front-length}
 use Rattle.image.proofs.Again.{fixed-marks}
 use Rattle.image.proofs.Reading.{image-size, no-image, is-image}
@@ -157,7 +157,7 @@ module _ (image octets out other : List ℕ) (d : ℕ) (side : Side) (same : sid
         (eu′ : up′ ≡ counted up (takenFor client side (t .taken)) (t .written .server))
         (ed′ : down′ ≡ counted down (takenFor server side (t .taken)) (t .written .client)) where
       abbrev fixed : List ℕ
-      fixed = bit (isSet image liveAt) ∷ bit (isSet image supportedAt) ∷ []
+      fixed = markOf (isSet image liveAt) ∷ markOf (isSet image supportedAt) ∷ []
 
       abbrev marks : List ℕ
       marks = marksFrom (isSet image liveAt) (isSet image supportedAt) (t .control)
@@ -179,25 +179,25 @@ module _ (image octets out other : List ℕ) (d : ℕ) (side : Side) (same : sid
           ∙ (λ i. marks ++ (numbersFrom (t .control) (u i) (v i) ++ same i))
 
       -- the two marks that stay lie before what is written
-      all-marks : placed (putMid clientAt lentSize image arrays) epsvAt (marksIn (t .control) ++ numbers) ≡ placed (putMid clientAt lentSize image arrays) 0 (marks ++ numbers)
+      all-marks : putAt (putMid clientAt lentSize image arrays) epsvAt (marksIn (t .control) ++ numbers) ≡ putAt (putMid clientAt lentSize image arrays) 0 (marks ++ numbers)
       all-marks =
           let head = length-take-le clientAt image (omega arith) in
           let front = front-length (isSet image liveAt) (isSet image supportedAt) (t .control) up′ down′ in
           let long = same-len-mid clientAt lentSize image arrays (size ∙ sym (lent-size image room)) in
           let stay = fixed-marks image ok
           ∙ sym (take-append-le epsvAt (take clientAt image) (arrays ++ postOf clientAt lentSize image) (omega arith) ∙ take-take epsvAt clientAt image (omega arith)) in
-          rest-placed (putMid clientAt lentSize image arrays) fixed (marksIn (t .control) ++ numbers) (omega arith) stay
+          rest-put (putMid clientAt lentSize image arrays) fixed (marksIn (t .control) ++ numbers) (omega arith) stay
 
-      pub left : (image′ : List ℕ) → image′ ≡ placed (putMid clientAt lentSize image arrays) epsvAt (marksIn (t .control) ++ numbers)
+      pub left : (image′ : List ℕ) → image′ ≡ putAt (putMid clientAt lentSize image arrays) epsvAt (marksIn (t .control) ++ numbers)
           → Left o (record { answer = t .answer; taken = t .taken; written = t .written }) image image′ out out′ other other′
       unfolding serverAfter clientAfter imageAfter choose
       left image′ e =
           let p = promised .0 in
           let front = front-length (isSet image liveAt) (isSet image supportedAt) (t .control) up′ down′ in
-          let back = e ∙ (all-marks ∙ (patched image arrays (marks ++ numbers) room size front ∙ ap (placed image 0) next-image)) in (
+          let back = e ∙ (all-marks ∙ (patched image arrays (marks ++ numbers) room size front ∙ ap (putAt image 0) next-image)) in (
             (
               record { answer = ap (λ (k : Called). k .answer) p; taken = ap (λ (k : Called). k .taken) p; written = ap (λ (k : Called). k .written) p },
-              back ∙ (ap (λ (k : Called). placed image 0 (imageOf (k .session))) p ∙ sym (rw below)),
+              back ∙ (ap (λ (k : Called). putAt image 0 (imageOf (k .session))) p ∙ sym (rw below)),
             ),
             (
               promised .1 .0 ∙ ap (λ (k : Called). o .toServer ++ drop (k .written .server) out) p,
@@ -231,12 +231,12 @@ module _ (image out other : List ℕ) (d : ℕ) {q : Refusal} {a : Answer} {r : 
       let by = by-answer (refusalOf (sessionOf image) d) a (sym p ∙ e) in
       rw (by, told) ((record { answer = refl; taken = refl; written = refl }, rw (refused-below d _ _ a by)), (refl, refl))
 
-  pub arrival-refused : (octets : List ℕ) → Left (arrivedAt image d octets out other) r image image out out other other
-  unfolding arrivedAt arrived
+  pub arrival-refused : (octets : List ℕ) → Left (arrivedOn image d octets out other) r image image out out other other
+  unfolding arrivedOn arrived
   arrival-refused octets = turned-away _
 
-  pub end-refused : Left (endedAt image d out other) r image image out out other other
-  unfolding endedAt ended
+  pub end-refused : Left (endedOn image d out other) r image image out out other other
+  unfolding endedOn endCalled
   end-refused = turned-away _
 
 -- ---- memory whose record refuses nothing is an image

@@ -17,7 +17,7 @@ use Rattle.records.specs.declared.Session.{Session}
 use Rattle.session.specs.Calls.{deadSession}
 use Rattle.records.proofs.Refusals.{sound-countable}
 use Rattle.image.specs.Image.{
-  bit,
+  markOf,
   placeNumber,
   fourOctets,
   capped,
@@ -26,7 +26,7 @@ use Rattle.image.specs.Image.{
   arraysOf,
   imageOf,
   placeOf,
-  numberAt,
+  countAt,
   isSet,
   part,
   countsAt,
@@ -45,13 +45,13 @@ use Rattle.image.proofs.Writing.{image-length}
 
 -- ---- one value
 
-bit-most : (b : Bool) → leb (bit b) 1 ≡ true
-unfolding bit
+bit-most : (b : Bool) → leb (markOf b) 1 ≡ true
+unfolding markOf
 bit-most false = refl
 bit-most true = refl
 
-bit-set : (b : Bool) → eqb (bit b) 1 ≡ b
-unfolding bit
+bit-set : (b : Bool) → eqb (markOf b) 1 ≡ b
+unfolding markOf
 bit-set false = refl
 bit-set true = refl
 
@@ -144,17 +144,17 @@ module _ (s : Session) (rest : List ℕ) (h : Sized s) where
   -- counts that fit in 32 bits
   module _ (owed : s .control .owed < 2 ^ 32) (command : s .control .client .held < 2 ^ 32) (reply : s .control .server .held < 2 ^ 32) where
     control-back : controlIn image ≡ s .control
-    unfolding controlIn numberAt imageOf marksOf numbersOf fourOctets
+    unfolding controlIn countAt imageOf marksOf numbersOf fourOctets
     control-back =
         let c = s .control in
         rw (bit-set (c .switches .epsv), bit-set (c .switches .eprt), bit-set (c .unfinished), place-back (c .client .place), place-back (c .server .place), capped-back (c .owed) owed, capped-back (c .client .held) command, capped-back (c .server .held) reply)
 
     up-back : Wrapped (s .up) → countsAt image upTakenAt ≡ s .up
-    unfolding countsAt numberAt imageOf marksOf numbersOf fourOctets
+    unfolding countsAt countAt imageOf marksOf numbersOf fourOctets
     up-back w = rw (four-back (s .up .taken) (w .taken), four-back (s .up .written) (w .written))
 
     down-back : Wrapped (s .down) → countsAt image downTakenAt ≡ s .down
-    unfolding countsAt numberAt imageOf marksOf numbersOf fourOctets
+    unfolding countsAt countAt imageOf marksOf numbersOf fourOctets
     down-back w = rw (four-back (s .down .taken) (w .taken), four-back (s .down .written) (w .written))
 
     live-back : isSet image liveAt ≡ s .live
@@ -193,5 +193,5 @@ dead-back rest =
     fields-back deadSession rest dead-sized (omega arith) (omega arith) (omega arith) none none
 
 pub dead-zero : DeadZero
-unfolding deadSession judged imageOf marksOf numbersOf arraysOf fourOctets capped choose bit placeNumber
+unfolding deadSession judged imageOf marksOf numbersOf arraysOf fourOctets capped choose markOf placeNumber
 dead-zero = refl

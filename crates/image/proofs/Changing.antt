@@ -9,11 +9,11 @@ use lib.Seq.{take-append-le, drop-append-le}
 use Rattle.rules.specs.Octets.{choose}
 use Rattle.rules.specs.Answers.{Side, client, server, wrapped}
 use Rattle.records.specs.Layout.{imageSize}
-use Rattle.output.specs.Buffer.{placed}
-use Rattle.output.proofs.Placing.{placed-fits, length-placed, one-placed}
-use Rattle.output.proofs.Front.{front-placed}
+use Rattle.output.specs.Buffer.{putAt}
+use Rattle.output.proofs.Placing.{put-fits, length-put, one-put}
+use Rattle.output.proofs.Front.{front-put}
 use Rattle.session.specs.Calls.{endStep, sessionAfter}
-use Rattle.image.specs.Image.{placeNumber, fourOctets, capped, marksOf, numbersOf, arraysOf, imageOf, numberAt, countsAt, controlIn, fieldsIn, isImage}
+use Rattle.image.specs.Image.{placeNumber, fourOctets, capped, marksOf, numbersOf, arraysOf, imageOf, countAt, countsAt, controlIn, fieldsIn, isImage}
 use Rattle.image.specs.Lent.{endedWith, placeAt, heldAt, writtenAt}
 use Rattle.image.proofs.Again.{image-long, fields-size, lies, count-kept}
 
@@ -24,32 +24,32 @@ abbrev over : List ℕ → ℕ → List ℕ → List ℕ
 over t i x = take i t ++ (x ++ drop (i + length x) t)
 
 over-length : (t : List ℕ) (i : ℕ) (x : List ℕ) → i + length x ≤ length t → length (over t i x) ≡ length t
-over-length t i x h = ap length (sym (placed-fits t i x h)) ∙ length-placed t i x h
+over-length t i x h = ap length (sym (put-fits t i x h)) ∙ length-put t i x h
 
 -- a text at the front of memory changes with the memory
 over-front : (l t : List ℕ) (i : ℕ) (x : List ℕ) → length t ≤ length l → i + length x ≤ length t
-    → placed (placed l 0 t) i x ≡ placed l 0 (over t i x)
+    → putAt (putAt l 0 t) i x ≡ putAt l 0 (over t i x)
 over-front l t i x room there =
     let rest = drop (length t) l in
     let size = over-length t i x there in
     let long = length-append t rest in
-    ap (λ (m : List ℕ). placed m i x) (front-placed l t room)
-    ∙ (placed-fits (t ++ rest) i x (omega arith)
+    ap (λ (m : List ℕ). putAt m i x) (front-put l t room)
+    ∙ (put-fits (t ++ rest) i x (omega arith)
     ∙ (rw (take-append-le i t rest (omega arith), drop-append-le (i + length x) t rest there)
     (simp append-assoc)
-    ∙ (ap (λ (n : ℕ). over t i x ++ drop n l) (sym size) ∙ sym (front-placed l (over t i x) (omega arith)))))
+    ∙ (ap (λ (n : ℕ). over t i x ++ drop n l) (sym size) ∙ sym (front-put l (over t i x) (omega arith)))))
 
 -- memory l′ is l with a text of 1,093 octets at its front
 record Fronted (l l′ t : List ℕ) : Type 0 where
-  here : l′ ≡ placed l 0 t
+  here : l′ ≡ putAt l 0 t
   size : length t ≡ imageSize
 
 stored : (l : List ℕ) → imageSize ≤ length l → {l′ t : List ℕ} → Fronted l l′ t → (i : ℕ) (x : List ℕ) → i + length x ≤ imageSize
-    → Fronted l (placed l′ i x) (over t i x)
+    → Fronted l (putAt l′ i x) (over t i x)
 stored l room {l′} {t} f i x there =
     let size = f .size in
     record {
-      here = ap (λ (m : List ℕ). placed m i x) (f .here) ∙ over-front l t i x (omega arith) (omega arith);
+      here = ap (λ (m : List ℕ). putAt m i x) (f .here) ∙ over-front l t i x (omega arith) (omega arith);
       size = over-length t i x (omega arith) ∙ size;
     }
 
@@ -63,7 +63,7 @@ fields-low server = (omega arith, omega arith, omega arith)
 module _ (image : List ℕ) (ok : isImage image ≡ true) (octets : (i : ℕ) → getD image i 0 < 256) where
   -- in the image of its record
   end-over : (d : Side) (n : ℕ)
-      → over (over (over (imageOf (fieldsIn image)) (placeAt d) (3 ∷ [])) (heldAt d) (fourOctets 0)) (writtenAt d) (fourOctets (wrapped (numberAt image (writtenAt d) + n)))
+      → over (over (over (imageOf (fieldsIn image)) (placeAt d) (3 ∷ [])) (heldAt d) (fourOctets 0)) (writtenAt d) (fourOctets (wrapped (countAt image (writtenAt d) + n)))
       ≡ imageOf (endedWith (fieldsIn image) d n)
   unfolding imageOf marksOf numbersOf arraysOf fourOctets capped choose placeNumber fieldsIn controlIn countsAt sessionAfter endStep
   end-over client n = rw (count-kept image ok octets 19, count-kept image ok octets 27, count-kept image ok octets 31)
@@ -71,18 +71,18 @@ module _ (image : List ℕ) (ok : isImage image ≡ true) (octets : (i : ℕ) �
 
   -- and in memory, where the code stores them
   pub end-stored : (d : Side) (n : ℕ) {place count sum before more : ℕ} {counted summed : List ℕ} → place ≡ placeAt d → count ≡ heldAt d
-      → sum ≡ writtenAt d → before ≡ numberAt image sum → more ≡ (before + n) % 2 ^ 32 → counted ≡ placed (set image place 3) count (fourOctets 0)
-      → summed ≡ placed counted sum (fourOctets more) → summed ≡ placed image 0 (imageOf (endedWith (fieldsIn image) d n))
+      → sum ≡ writtenAt d → before ≡ countAt image sum → more ≡ (before + n) % 2 ^ 32 → counted ≡ putAt (set image place 3) count (fourOctets 0)
+      → summed ≡ putAt counted sum (fourOctets more) → summed ≡ putAt image 0 (imageOf (endedWith (fieldsIn image) d n))
   unfolding wrapped fourOctets
   end-stored d n {place} ep ec es eb em put put′ =
       let long = image-long image ok in
       let low = fields-low d in
-      let mark = one-placed image place 3 (omega arith) ∙ ap (λ (p : ℕ). placed image p (3 ∷ [])) ep in
-      let number = em ∙ ap (λ (b : ℕ). wrapped (b + n)) (eb ∙ ap (numberAt image) es) in
+      let mark = one-put image place 3 (omega arith) ∙ ap (λ (p : ℕ). putAt image p (3 ∷ [])) ep in
+      let number = em ∙ ap (λ (b : ℕ). wrapped (b + n)) (eb ∙ ap (countAt image) es) in
       let first : Fronted image image (imageOf (fieldsIn image)) = record { here = sym (lies image ok octets); size = fields-size image ok octets } in
       let marked = stored image long first (placeAt d) (3 ∷ []) (omega arith) in
       let emptied = stored image long marked (heldAt d) (fourOctets 0) (omega arith) in
-      let done = stored image long emptied (writtenAt d) (fourOctets (wrapped (numberAt image (writtenAt d) + n))) (omega arith) in
+      let done = stored image long emptied (writtenAt d) (fourOctets (wrapped (countAt image (writtenAt d) + n))) (omega arith) in
       put′
-      ∙ ((λ i. placed ((put ∙ (λ j. placed (mark j) (ec j) (fourOctets 0))) i) (es i) (fourOctets (number i)))
-      ∙ (done .here ∙ ap (placed image 0) (end-over d n)))
+      ∙ ((λ i. putAt ((put ∙ (λ j. putAt (mark j) (ec j) (fourOctets 0))) i) (es i) (fourOctets (number i)))
+      ∙ (done .here ∙ ap (putAt image 0) (end-over d n)))

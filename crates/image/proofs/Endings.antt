@@ -13,7 +13,7 @@ use Rattle.rules.specs.Answers.{Side, client, server, answerNumber}
 use Rattle.rules.specs.declared.Answer.{Answer}
 use Rattle.rules.specs.Lines.{mostHeld}
 use Rattle.records.specs.Layout.{commandAt, replyAt, imageSize}
-use Rattle.output.specs.Buffer.{placed, placeAfter}
+use Rattle.output.specs.Buffer.{putAt, positionAfter}
 use Rattle.output.proofs.Front.{put-size, put-text}
 use Rattle.records.specs.declared.Control.{Control}
 use Rattle.records.specs.declared.Session.{Session}
@@ -22,10 +22,10 @@ use Rattle.records.proofs.Refusals.{countable}
 use Rattle.steps.specs.declared.Written.{Written}
 use Rattle.steps.specs.Steps.{Step}
 use Rattle.session.specs.declared.Called.{Called}
-use Rattle.session.specs.Calls.{Outcome, stateOf, sessionAfter, refused, outcome, endStep, endOutcome, ended}
+use Rattle.session.specs.Calls.{Outcome, stateOf, sessionAfter, refused, outcome, endStep, endOutcome, endCalled}
 use Rattle.session.proofs.Outcomes.{passed-on, untouched, client-ends, server-ends}
 use Rattle.image.specs.declared.arrival.Told.{Told}
-use Rattle.image.specs.Image.{imageOf, numberAt, part, controlIn, fieldsIn, isImage, sessionOf}
+use Rattle.image.specs.Image.{imageOf, countAt, part, controlIn, fieldsIn, isImage, sessionOf}
 use Rattle.image.specs.Lent.{heldEnd, endedWith, heldAt, lineAt, writtenFrom, imageAfter, serverAfter, clientAfter, bufferAfter, Tells}
 use Rattle.image.proofs.Again.{image-long, lies}
 use Rattle.image.proofs.Arrivals.{Left, ToldOnly, free-fields, free-size}
@@ -52,10 +52,10 @@ line-long image room client = length-take-le mostHeld (drop commandAt image) (om
 line-long image room server = length-take-le mostHeld (drop replyAt image) (omega (arith, length-drop replyAt image))
 
 -- the number that tells how many octets a side holds
-pub held-here : (image : List ℕ) (d : Side) {count h : ℕ} → count ≡ heldAt d → h ≡ numberAt image count → h ≡ directionOf d (controlIn image) .held
+pub held-here : (image : List ℕ) (d : Side) {count h : ℕ} → count ≡ heldAt d → h ≡ countAt image count → h ≡ directionOf d (controlIn image) .held
 unfolding controlIn
-held-here image client p q = q ∙ ap (numberAt image) p
-held-here image server p q = q ∙ ap (numberAt image) p
+held-here image client p q = q ∙ ap (countAt image) p
+held-here image server p q = q ∙ ap (countAt image) p
 
 pub held-low : (image : List ℕ) (d : Side) {h : ℕ} → Counted (controlIn image) → h ≡ directionOf d (controlIn image) .held → h ≤ mostHeld
 held-low image d k e = let low = few d k in omega arith
@@ -119,7 +119,7 @@ module _ (image out : List ℕ) (ok : isImage image ≡ true) (d : Side) {h : �
   buffer-then server q p = p ∙ ap (λ (m : ℕ). take (s .control .server .held) (s .reply) ++ drop m out) q
 
   module _ (k : Counted (controlIn image)) (fit : h ≤ length out) {at n : ℕ} (ea : at ≡ lineAt d)
-      (en : n ≡ placeAfter out 0 (part image at (at + h - at))) where
+      (en : n ≡ positionAfter out 0 (part image at (at + h - at))) where
     text-is : part image at (at + h - at) ≡ take held (lineOf d s)
     unfolding fieldsIn
     text-is =
@@ -134,15 +134,15 @@ module _ (image out : List ℕ) (ok : isImage image ≡ true) (d : Side) {h : �
     fits = omega (arith, held-is)
 
     size : n ≡ length (take held (lineOf d s))
-    size = put-size (lineOf d s) out held there fits (en ∙ ap (placeAfter out 0) text-is)
+    size = put-size (lineOf d s) out held there fits (en ∙ ap (positionAfter out 0) text-is)
 
     pub few-put : n ≤ mostHeld
     few-put = omega (arith, held-low image d k eh, held-is, size, length-take-le held (lineOf d s) there)
 
-    module _ {out′ image′ : List ℕ} {w : Written} (eo : out′ ≡ placed out 0 (part image at (at + h - at))) (ew : w ≡ writtenFrom d n)
-        (put : image′ ≡ placed image 0 (imageOf (endedWith s d n))) where
+    module _ {out′ image′ : List ℕ} {w : Written} (eo : out′ ≡ putAt out 0 (part image at (at + h - at))) (ew : w ≡ writtenFrom d n)
+        (put : image′ ≡ putAt image 0 (imageOf (endedWith s d n))) where
       gone : out′ ≡ take held (lineOf d s) ++ drop n out
-      gone = put-text (lineOf d s) out held there fits (en ∙ ap (placeAfter out 0) text-is) (eo ∙ ap (placed out 0) text-is)
+      gone = put-text (lineOf d s) out held there fits (en ∙ ap (positionAfter out 0) text-is) (eo ∙ ap (putAt out 0) text-is)
 
       abbrev next : Session
       next = sessionAfter s d 0 (w .server) (w .client) (t .state)
@@ -150,15 +150,15 @@ module _ (image out : List ℕ) (ok : isImage image ≡ true) (d : Side) {h : �
       done : record { answer = Answer.Done; taken = 0; written = w; session = next } ≡ endOutcome s d t true .called
       done = let sizes = text-sizes d n w ew size in passed-on s d t (sizes .0) (sizes .1) refl
 
-      back : image′ ≡ placed image 0 (imageOf next)
-      back = put ∙ ap (λ (x : Written). placed image 0 (imageOf (sessionAfter s d 0 (x .server) (x .client) (t .state)))) (sym ew)
+      back : image′ ≡ putAt image 0 (imageOf next)
+      back = put ∙ ap (λ (x : Written). putAt image 0 (imageOf (sessionAfter s d 0 (x .server) (x .client) (t .state)))) (sym ew)
 
       done-left : LeftOne d (endOutcome s d t true) (record { answer = Answer.Done; taken = 0; written = w }) image image′ out out′
       unfolding endOutcome outcome imageAfter choose answerNumber
       done-left = (
         (
           record { answer = ap (λ (x : Called). x .answer) done; taken = ap (λ (x : Called). x .taken) done; written = ap (λ (x : Called). x .written) done },
-          back ∙ ap (λ (x : Called). placed image 0 (imageOf (x .session))) done,
+          back ∙ ap (λ (x : Called). putAt image 0 (imageOf (x .session))) done,
         ),
         buffer-then d size gone,
       )
@@ -179,14 +179,14 @@ module _ (image out other : List ℕ) (d : ℕ) (free : refusalOf (sessionOf ima
   same = free-fields image d free
 
   -- the record's end is that of the fields
-  of-fields : {o : Outcome} → ended fields d (length out) (length other) ≡ o → o ≡ ended (sessionOf image) d (length out) (length other)
-  of-fields e = sym e ∙ ap (λ (x : Session). ended x d (length out) (length other)) same
+  of-fields : {o : Outcome} → endCalled fields d (length out) (length other) ≡ o → o ≡ endCalled (sessionOf image) d (length out) (length other)
+  of-fields e = sym e ∙ ap (λ (x : Session). endCalled x d (length out) (length other)) same
 
   fields-free : refusalOf fields d ≡ none
   fields-free = subst (λ (x : Session). refusalOf x d ≡ none) (sym same) free
 
   pub client-left : d ≡ 0 → {r : Told} {image′ out′ : List ℕ} → LeftOne client (heldEnd fields client (length out)) r image image′ out out′
-      → Left (ended (sessionOf image) d (length out) (length other)) r image image′ out out′ other other
+      → Left (endCalled (sessionOf image) d (length out) (length other)) r image image′ out out′ other other
   unfolding heldEnd fieldsIn bufferAfter clientAfter endStep
   client-left z {r} {image′} {out′} p =
       let room = free-size image d free in
@@ -196,7 +196,7 @@ module _ (image out other : List ℕ) (d : ℕ) (free : refusalOf (sessionOf ima
       (p .0, (p .1, untouched fields client (endStep client (stateOf fields)) _ other refl .1 refl))
 
   pub server-left : (d ≡ 0 → ⊥) → {r : Told} {image′ other′ : List ℕ} → LeftOne server (heldEnd fields server (length other)) r image image′ other other′
-      → Left (ended (sessionOf image) d (length out) (length other)) r image image′ out out other other′
+      → Left (endCalled (sessionOf image) d (length out) (length other)) r image image′ out out other other′
   unfolding heldEnd fieldsIn bufferAfter serverAfter endStep
   server-left z {r} {image′} {other′} p =
       let room = free-size image d free in

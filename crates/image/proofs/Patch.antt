@@ -8,23 +8,23 @@ use lib.ListN.{length, take, drop, length-append, take-append-drop}
 use lib.Seq.{length-take-le, drop-at, drop-drop}
 use borrow.Rule.Slice.PartMut.{putMid, postOf}
 use Rattle.records.specs.Layout.{clientAt, imageSize, lentSize}
-use Rattle.output.specs.Buffer.{placed}
-use Rattle.output.proofs.Placing.{placed-after}
-use Rattle.output.proofs.Front.{front-placed}
+use Rattle.output.specs.Buffer.{putAt}
+use Rattle.output.proofs.Placing.{put-after}
+use Rattle.output.proofs.Front.{front-put}
 
 -- a text that lies at the front already
-pub unchanged : (l text : List ℕ) → length text ≤ length l → text ≡ take (length text) l → placed l 0 text ≡ l
+pub unchanged : (l text : List ℕ) → length text ≤ length l → text ≡ take (length text) l → putAt l 0 text ≡ l
 unchanged l text room same =
-    front-placed l text room ∙ (ap (λ (x : List ℕ). x ++ drop (length text) l) same ∙ take-append-drop (length text) l)
+    front-put l text room ∙ (ap (λ (x : List ℕ). x ++ drop (length text) l) same ∙ take-append-drop (length text) l)
 
--- so only what follows it needs to be placed
-pub rest-placed : (l a b : List ℕ) → length (a ++ b) ≤ length l → a ≡ take (length a) l → placed l (length a) b ≡ placed l 0 (a ++ b)
-rest-placed l a b room same =
+-- so only what follows it needs to be put
+pub rest-put : (l a b : List ℕ) → length (a ++ b) ≤ length l → a ≡ take (length a) l → putAt l (length a) b ≡ putAt l 0 (a ++ b)
+rest-put l a b room same =
     let there = unchanged l a (omega (arith, length-append a b)) same in
-    (λ i. placed (sym there i) (sym (zero-add (length a)) i) b) ∙ placed-after l 0 a b (omega arith)
+    (λ i. putAt (sym there i) (sym (zero-add (length a)) i) b) ∙ put-after l 0 a b (omega arith)
 
 module _ (image lent head : List ℕ) (room : imageSize ≤ length image) (size : length lent ≡ lentSize) (front : length head ≡ clientAt) where
-  pub patched : placed (putMid clientAt lentSize image lent) 0 head ≡ placed image 0 (head ++ lent)
+  pub patched : putAt (putMid clientAt lentSize image lent) 0 head ≡ putAt image 0 (head ++ lent)
   patched =
       let first = length-take-le clientAt image (omega arith) in
       let rest = lent ++ postOf clientAt lentSize image in
@@ -35,7 +35,7 @@ module _ (image lent head : List ℕ) (room : imageSize ≤ length image) (size 
       let whole : length (head ++ lent) ≡ imageSize = omega arith in
       let end : drop (length (head ++ lent)) image ≡ postOf clientAt lentSize image =
       ap (λ (n : ℕ). drop n image) whole ∙ sym (drop-drop lentSize clientAt image) in
-      front-placed (putMid clientAt lentSize image lent) head (omega arith)
+      front-put (putMid clientAt lentSize image lent) head (omega arith)
       ∙ (ap (λ (l : List ℕ). head ++ l) behind
       ∙ (sym (append-assoc head lent (postOf clientAt lentSize image))
-      ∙ (ap (λ (l : List ℕ). (head ++ lent) ++ l) (sym end) ∙ sym (front-placed image (head ++ lent) (omega arith)))))
+      ∙ (ap (λ (l : List ℕ). (head ++ lent) ++ l) (sym end) ∙ sym (front-put image (head ++ lent) (omega arith)))))

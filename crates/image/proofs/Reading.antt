@@ -15,7 +15,7 @@ use Rattle.rules.specs.Lines.{mostHeld}
 use Rattle.records.specs.Layout.{liveAt, supportedAt, clientPlaceAt, upTakenAt, downTakenAt, clientAt, mappedAt, kindsAt, commandAt, replyAt, imageSize, bitsSize, placesSize, ipv6Width, ipv4Width}
 use Rattle.octets.proofs.Ranges.{and-both}
 use Rattle.places.specs.declared.Place.{Place}
-use Rattle.output.specs.Buffer.{placed}
+use Rattle.output.specs.Buffer.{putAt}
 use Rattle.output.proofs.Front.{filled}
 use Rattle.records.specs.declared.Control.{Control}
 use Rattle.records.specs.declared.Counts.{Counts}
@@ -34,7 +34,7 @@ place-other (suc (suc zero)) a b c = absurd (c refl)
 place-other (suc (suc (suc n))) a b c = refl
 
 -- a part of an image that was copied
-pub copied : (image : List ℕ) (i n : ℕ) → i + n ≤ length image → {r : List ℕ} → r ≡ placed (replicate n 0) 0 (part image i n)
+pub copied : (image : List ℕ) (i n : ℕ) → i + n ≤ length image → {r : List ℕ} → r ≡ putAt (replicate n 0) 0 (part image i n)
     → r ≡ part image i n
 copied image i n there e =
     let left : n ≤ length (drop i image) = rw length-drop (omega arith) in

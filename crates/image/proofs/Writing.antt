@@ -6,7 +6,7 @@ use Prim.Native.Nat.{ℕ}
 use native.Mathlib.Omega.{arith}
 use lib.ListN.{length, length-append}
 use Rattle.records.specs.Layout.{clientAt, imageSize, lentSize}
-use Rattle.output.specs.Buffer.{PlacedInRoom}
+use Rattle.output.specs.Buffer.{PutInRoom}
 use Rattle.output.proofs.Placing.{Wrote, joined}
 use Rattle.records.specs.declared.Control.{Control}
 use Rattle.records.specs.declared.Counts.{Counts}
@@ -15,15 +15,15 @@ use Rattle.image.specs.Image.{Sized, capped, fourOctets, marksFrom, numb
 
 -- a part that was put, and those behind it
 pub andThen : (out : List ℕ) (at : ℕ) (a b : List ℕ) {after last : List ℕ} {next end : ℕ} → Wrote out at a next after
-    → PlacedInRoom after next b end last → PlacedInRoom out at (a ++ b) end last
+    → PutInRoom after next b end last → PutInRoom out at (a ++ b) end last
 andThen out at a b one rest = joined out at a b (λ room. one) rest
 
 -- numbers that were put, where they are the counts of a control in 32 bits
 pub numbers-put : (out : List ℕ) (at : ℕ) (c : Control) (up down : Counts) {owed command reply end : ℕ} {last : List ℕ} → owed ≡ capped (c .owed)
     → command ≡ capped (c .client .held) → reply ≡ capped (c .server .held)
-    → PlacedInRoom out at (numbersBy owed command reply up down) end last → PlacedInRoom out at (numbersFrom c up down) end last
+    → PutInRoom out at (numbersBy owed command reply up down) end last → PutInRoom out at (numbersFrom c up down) end last
 numbers-put out at c up down {end = end} {last = last} eo ec er =
-    subst (λ (l : List ℕ). PlacedInRoom out at l end last) (λ i. numbersBy (eo i) (ec i) (er i) up down)
+    subst (λ (l : List ℕ). PutInRoom out at l end last) (λ i. numbersBy (eo i) (ec i) (er i) up down)
 
 pub front-length : (live supported : Bool) (c : Control) (up down : Counts) → length (marksFrom live supported c ++ numbersFrom c up down) ≡ clientAt
 unfolding fourOctets

@@ -1,4 +1,4 @@
--- The record as octets at fixed places, for a host that keeps it in memory of its own: the table in docs/RECORD.md.
+-- The record as octets at fixed positions, for a host that keeps it in memory of its own: the table in docs/RECORD.md.
 use mathlib.Core.Path.{_≡_}
 use mathlib.Core.Bool.{Bool, true, false, _&&_}
 use mathlib.Core.List.{List, [], _∷_, _++_}
@@ -19,9 +19,9 @@ use Rattle.records.specs.Sound.{sound}
 
 -- ---- values as octets
 
-unfoldable pub bit : Bool → ℕ
-bit false = 0
-bit true = 1
+unfoldable pub markOf : Bool → ℕ
+markOf false = 0
+markOf true = 1
 
 unfoldable pub placeNumber : Place → ℕ
 placeNumber Place.Holding = 0
@@ -42,12 +42,12 @@ capped n = choose (leb n (2 ^ 32 - 1)) n (2 ^ 32 - 1)
 -- the marks of a control, which calls can change
 abbrev pub marksIn : Control → List ℕ
 marksIn c =
-    bit (c .switches .epsv) ∷ bit (c .switches .eprt) ∷ bit (c .unfinished)
+    markOf (c .switches .epsv) ∷ markOf (c .switches .eprt) ∷ markOf (c .unfinished)
     ∷ placeNumber (c .client .place) ∷ placeNumber (c .server .place) ∷ []
 
 -- behind two that stay from the setup on
 abbrev pub marksFrom : Bool → Bool → Control → List ℕ
-marksFrom live supported c = bit live ∷ bit supported ∷ marksIn c
+marksFrom live supported c = markOf live ∷ markOf supported ∷ marksIn c
 
 unfoldable pub marksOf : Session → List ℕ
 marksOf s = marksFrom (s .live) (s .supported) (s .control)
@@ -87,25 +87,25 @@ placeOf (suc zero) = Place.Flowing
 placeOf (suc (suc zero)) = Place.Passing
 placeOf (suc (suc (suc n))) = Place.Ended
 
--- the number in the four octets at a place, low octet first
-unfoldable pub numberAt : List ℕ → ℕ → ℕ
-numberAt image i =
+-- the number in the four octets at a position, low octet first
+unfoldable pub countAt : List ℕ → ℕ → ℕ
+countAt image i =
     getD image i 0 + getD image (i + 1) 0 * 256 + getD image (i + 2) 0 * 65536 + getD image (i + 3) 0 * 16777216
 
--- the n octets at a place
+-- the n octets at a position
 abbrev pub part : List ℕ → ℕ → ℕ → List ℕ
 part image i n = take n (drop i image)
 
 unfoldable pub countsAt : List ℕ → ℕ → Counts
-countsAt image i = record { taken = numberAt image i; written = numberAt image (i + numberWidth) }
+countsAt image i = record { taken = countAt image i; written = countAt image (i + numberWidth) }
 
 unfoldable pub controlIn : List ℕ → Control
 controlIn image =
     record {
       switches = record { epsv = isSet image epsvAt; eprt = isSet image eprtAt };
-      client = at (placeOf (getD image clientPlaceAt 0)) (numberAt image clientHeldAt);
-      server = at (placeOf (getD image serverPlaceAt 0)) (numberAt image serverHeldAt);
-      owed = numberAt image owedAt;
+      client = at (placeOf (getD image clientPlaceAt 0)) (countAt image clientHeldAt);
+      server = at (placeOf (getD image serverPlaceAt 0)) (countAt image serverHeldAt);
+      owed = countAt image owedAt;
       unfinished = isSet image unfinishedAt;
     }
 

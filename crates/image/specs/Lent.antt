@@ -7,26 +7,26 @@ use lib.ListN.{length, drop}
 use Rattle.rules.specs.Octets.{choose}
 use Rattle.rules.specs.Answers.{Side, client, server, answerNumber}
 use Rattle.records.specs.Layout.{commandAt, replyAt, clientPlaceAt, serverPlaceAt, clientHeldAt, serverHeldAt, upWrittenAt, downWrittenAt}
-use Rattle.output.specs.Buffer.{placed}
+use Rattle.output.specs.Buffer.{putAt}
 use Rattle.records.specs.declared.Session.{Session}
 use Rattle.records.specs.Sound.{directionOf}
 use Rattle.steps.specs.declared.Written.{Written}
 use Rattle.session.specs.declared.Called.{Called}
-use Rattle.session.specs.Calls.{Outcome, stateOf, sessionAfter, arrived, endStep, endOutcome, ended}
+use Rattle.session.specs.Calls.{Outcome, stateOf, sessionAfter, arrived, endStep, endOutcome, endCalled}
 use Rattle.image.specs.declared.arrival.Told.{Told}
 use Rattle.image.specs.Image.{imageOf, sessionOf}
 
 -- an arrival on the record of an image
-unfoldable pub arrivedAt : List ℕ → ℕ → List ℕ → List ℕ → List ℕ → Outcome
-arrivedAt image direction octets toServer toClient =
+unfoldable pub arrivedOn : List ℕ → ℕ → List ℕ → List ℕ → List ℕ → Outcome
+arrivedOn image direction octets toServer toClient =
     arrived (sessionOf image) direction octets (length toServer) (length toClient)
 
-unfoldable pub endedAt : List ℕ → ℕ → List ℕ → List ℕ → Outcome
-endedAt image direction toServer toClient = ended (sessionOf image) direction (length toServer) (length toClient)
+unfoldable pub endedOn : List ℕ → ℕ → List ℕ → List ℕ → Outcome
+endedOn image direction toServer toClient = endCalled (sessionOf image) direction (length toServer) (length toClient)
 
 -- "With 3, 4 and 6 nothing is written and the record comes back equal"
 unfoldable pub imageAfter : List ℕ → Called → List ℕ
-imageAfter image k = choose (leb 3 (answerNumber (k .answer))) image (placed image 0 (imageOf (k .session)))
+imageAfter image k = choose (leb 3 (answerNumber (k .answer))) image (putAt image 0 (imageOf (k .session)))
 
 -- "Buffers keep their old contents beyond the written count"
 unfoldable pub serverAfter : Outcome → List ℕ → List ℕ

@@ -3,7 +3,7 @@ ghost use mathlib.Core.Path.{_≡_};
 ghost use mathlib.Core.Option.{none};
 ghost use Rattle.records.specs.Sound.{refusalOf};
 ghost use Rattle.image.specs.Image.{sessionOf};
-ghost use Rattle.image.specs.Lent.{arrivedAt, imageAfter, serverAfter, clientAfter, Tells};
+ghost use Rattle.image.specs.Lent.{arrivedOn, imageAfter, serverAfter, clientAfter, Tells};
 use crate::control_in;
 use crate::counts_at;
 use crate::is_image;
@@ -32,10 +32,10 @@ pub fn arrive_at(
     to_client: &mut [u8],
 ) -> Told
     ensures { λ r.
-        let o = arrivedAt (now (image .entry)) direction (now (octets .entry)) (now («to_server» .entry)) (now («to_client» .entry)) in
+        let o = arrivedOn (now (image .entry)) direction (now (octets .entry)) (now («to_server» .entry)) (now («to_client» .entry)) in
         ⌜ Tells r (o .called) × (now (image .exit) ≡ imageAfter (now (image .entry)) (o .called)) ⌝ }
     ensures { λ r.
-        let o = arrivedAt (now (image .entry)) direction (now (octets .entry)) (now («to_server» .entry)) (now («to_client» .entry)) in
+        let o = arrivedOn (now (image .entry)) direction (now (octets .entry)) (now («to_server» .entry)) (now («to_client» .entry)) in
         ⌜ (now («to_server» .exit) ≡ serverAfter o (now («to_server» .entry)))
         × (now («to_client» .exit) ≡ clientAfter o (now («to_client» .entry))) ⌝ }
 {
@@ -61,10 +61,10 @@ fn take_at(
 ) -> Told
     requires { ⌜ refusalOf (sessionOf (now image)) direction ≡ none ⌝ }
     ensures { λ r.
-        let o = arrivedAt (now (image .entry)) direction (now (octets .entry)) (now («to_server» .entry)) (now («to_client» .entry)) in
+        let o = arrivedOn (now (image .entry)) direction (now (octets .entry)) (now («to_server» .entry)) (now («to_client» .entry)) in
         ⌜ Tells r (o .called) × (now (image .exit) ≡ imageAfter (now (image .entry)) (o .called)) ⌝ }
     ensures { λ r.
-        let o = arrivedAt (now (image .entry)) direction (now (octets .entry)) (now («to_server» .entry)) (now («to_client» .entry)) in
+        let o = arrivedOn (now (image .entry)) direction (now (octets .entry)) (now («to_server» .entry)) (now («to_client» .entry)) in
         ⌜ (now («to_server» .exit) ≡ serverAfter o (now («to_server» .entry)))
         × (now («to_client» .exit) ≡ clientAfter o (now («to_client» .entry))) ⌝ }
 {

@@ -3,12 +3,12 @@
 ghost use mathlib.Core.Path.{_≡_};
 ghost use mathlib.Core.Bool.{true};
 ghost use Prim.Native.Nat.{_≤_};
-ghost use Rattle.output.specs.Buffer.{placed};
+ghost use Rattle.output.specs.Buffer.{putAt};
 ghost use Rattle.records.specs.Sound.{sideIf, Counted};
 ghost use lib.ListN.{length};
 ghost use Rattle.rules.specs.Lines.{mostHeld};
 ghost use Rattle.image.specs.Image.{imageOf, controlIn, fieldsIn, isImage};
-ghost use Rattle.image.specs.Lent.{endedAt, heldEnd, endedWith, placeAt, heldAt, lineAt, writtenAt, writtenFrom, imageAfter, serverAfter, clientAfter, bufferAfter, Tells};
+ghost use Rattle.image.specs.Lent.{endedOn, heldEnd, endedWith, placeAt, heldAt, lineAt, writtenAt, writtenFrom, imageAfter, serverAfter, clientAfter, bufferAfter, Tells};
 use crate::Told;
 use crate::arrival::nothing_written;
 use crate::is_image;
@@ -26,10 +26,10 @@ use steps::Written;
 // what it reads.
 pub fn end_at(image: &mut [u8], direction: u8, to_server: &mut [u8], to_client: &mut [u8]) -> Told
     ensures { λ r.
-        let o = endedAt (now (image .entry)) direction (now («to_server» .entry)) (now («to_client» .entry)) in
+        let o = endedOn (now (image .entry)) direction (now («to_server» .entry)) (now («to_client» .entry)) in
         ⌜ Tells r (o .called) × (now (image .exit) ≡ imageAfter (now (image .entry)) (o .called)) ⌝ }
     ensures { λ r.
-        let o = endedAt (now (image .entry)) direction (now («to_server» .entry)) (now («to_client» .entry)) in
+        let o = endedOn (now (image .entry)) direction (now («to_server» .entry)) (now («to_client» .entry)) in
         ⌜ (now («to_server» .exit) ≡ serverAfter o (now («to_server» .entry)))
         × (now («to_client» .exit) ≡ clientAfter o (now («to_client» .entry))) ⌝ }
 {
@@ -76,7 +76,7 @@ fn end_held(image: &mut [u8], from_client: bool, out: &mut [u8]) -> Told
 fn put_end(image: &mut [u8], from_client: bool, n: usize)
     requires { ⌜ (isImage (now image) ≡ true) × (n ≤ mostHeld) ⌝ }
     ensures { λ _.
-        ⌜ now (image .exit) ≡ placed (now (image .entry)) 0 (imageOf (endedWith (fieldsIn (now (image .entry))) (sideIf «from_client») n)) ⌝ }
+        ⌜ now (image .exit) ≡ putAt (now (image .entry)) 0 (imageOf (endedWith (fieldsIn (now (image .entry))) (sideIf «from_client») n)) ⌝ }
 {
     let place = place_at(from_client);
     let count = held_at(from_client);

@@ -5,10 +5,10 @@ ghost use mathlib.Core.List.{_++_};
 ghost use lib.ListN.{length};
 ghost use Rattle.rules.specs.Lines.{mostHeld};
 ghost use Rattle.records.specs.Layout.{numberWidth, epsvAt, imageSize};
-ghost use Rattle.output.specs.Buffer.{placed, placeAfter, PlacedInRoom};
+ghost use Rattle.output.specs.Buffer.{putAt, positionAfter, PutInRoom};
 ghost use Rattle.records.specs.Sound.{refusalOf, refusalBy, Counted};
 ghost use Rattle.session.specs.Calls.{deadSession};
-ghost use Rattle.image.specs.Image.{bit as bitOf, placeNumber, fourOctets, capped as cappedAt, marksIn, marksFrom, numbersBy, numbersFrom, arraysOf, imageOf, placeOf, numberAt, countsAt, controlIn, fieldsIn, atMost, isImage, sessionOf};
+ghost use Rattle.image.specs.Image.{markOf as bitOf, placeNumber, fourOctets, capped as cappedAt, marksIn, marksFrom, numbersBy, numbersFrom, arraysOf, imageOf, placeOf, countAt, countsAt, controlIn, fieldsIn, atMost, isImage, sessionOf};
 use output::four;
 use output::put;
 use output::sixteen;
@@ -33,7 +33,7 @@ pub use ending::end_at;
 
 // Puts a record's image at the front of lent memory, or nothing where it does not fit.
 pub fn put_image(image: &mut [u8], session: Session)
-    ensures { λ _. ⌜ now (image .exit) ≡ placed (now (image .entry)) 0 (imageOf session) ⌝ }
+    ensures { λ _. ⌜ now (image .exit) ≡ putAt (now (image .entry)) 0 (imageOf session) ⌝ }
 {
     if image.len() < layout::SIZE {
         return;
@@ -58,7 +58,7 @@ pub fn put_image(image: &mut [u8], session: Session)
 }
 
 fn put_marks(out: &mut [u8], at: usize, live: bool, supported: bool, control: Control) -> usize
-    ensures { λ r. ⌜ PlacedInRoom (now (out .entry)) at (marksFrom live supported control) r (now (out .exit)) ⌝ }
+    ensures { λ r. ⌜ PutInRoom (now (out .entry)) at (marksFrom live supported control) r (now (out .exit)) ⌝ }
 {
     let fixed = [bit(live), bit(supported)];
     let next = put(out, at, &fixed);
@@ -67,7 +67,7 @@ fn put_marks(out: &mut [u8], at: usize, live: bool, supported: bool, control: Co
 
 // The marks that calls can change.
 fn put_control(out: &mut [u8], at: usize, control: Control) -> usize
-    ensures { λ r. ⌜ PlacedInRoom (now (out .entry)) at (marksIn control) r (now (out .exit)) ⌝ }
+    ensures { λ r. ⌜ PutInRoom (now (out .entry)) at (marksIn control) r (now (out .exit)) ⌝ }
 {
     let switches = control.switches;
     let client = control.client;
@@ -114,7 +114,7 @@ fn put_numbers(
     up: Counts,
     down: Counts,
 ) -> usize
-    ensures { λ r. ⌜ PlacedInRoom (now (out .entry)) at (numbersBy owed command reply up down) r (now (out .exit)) ⌝ }
+    ensures { λ r. ⌜ PutInRoom (now (out .entry)) at (numbersBy owed command reply up down) r (now (out .exit)) ⌝ }
 {
     let mut next = put_number(out, at, owed);
     next = put_number(out, next, command);
@@ -145,8 +145,8 @@ fn uncapped(n: usize) -> u32
 
 // A number in four octets, low octet first.
 fn put_number(out: &mut [u8], at: usize, n: u32) -> usize
-    ensures { λ r. ⌜ r ≡ placeAfter (now (out .entry)) at (fourOctets n) ⌝ }
-    ensures { λ r. ⌜ now (out .exit) ≡ placed (now (out .entry)) at (fourOctets n) ⌝ }
+    ensures { λ r. ⌜ r ≡ positionAfter (now (out .entry)) at (fourOctets n) ⌝ }
+    ensures { λ r. ⌜ now (out .exit) ≡ putAt (now (out .entry)) at (fourOctets n) ⌝ }
 {
     let octets = [
         (n % 256) as u8,
@@ -158,7 +158,7 @@ fn put_number(out: &mut [u8], at: usize, n: u32) -> usize
 }
 
 fn put_arrays(out: &mut [u8], at: usize, session: Session) -> usize
-    ensures { λ r. ⌜ PlacedInRoom (now (out .entry)) at (arraysOf session) r (now (out .exit)) ⌝ }
+    ensures { λ r. ⌜ PutInRoom (now (out .entry)) at (arraysOf session) r (now (out .exit)) ⌝ }
 {
     let client = session.client;
     let mapped = session.mapped;
@@ -176,7 +176,7 @@ fn put_arrays(out: &mut [u8], at: usize, session: Session) -> usize
 fn put_back(image: &mut [u8], control: Control, up: Counts, down: Counts)
     requires { ⌜ (imageSize ≤ length (now image)) × Counted control ⌝ }
     ensures { λ _.
-        ⌜ now (image .exit) ≡ placed (now (image .entry)) epsvAt (marksIn control ++ numbersFrom control up down) ⌝ }
+        ⌜ now (image .exit) ≡ putAt (now (image .entry)) epsvAt (marksIn control ++ numbersFrom control up down) ⌝ }
 {
     let said = control.client;
     let answered = control.server;
@@ -318,7 +318,7 @@ fn counts_at(image: &[u8], at: usize) -> Counts
 // The number in four octets, low octet first, as the one sum that the compiler makes one load of.
 fn number_at(image: &[u8], at: usize) -> u32
     requires { ⌜ at + numberWidth ≤ length (now image) ⌝ }
-    ensures { λ r. ⌜ r ≡ numberAt (now (image .entry)) at ⌝ }
+    ensures { λ r. ⌜ r ≡ countAt (now (image .entry)) at ⌝ }
 {
     let first = wide(image[at]);
     let second = wide(image[at + 1]);

@@ -1,4 +1,4 @@
--- The parts of a line, from the places where they start and end.
+-- The parts of a line, from the positions where they start and end.
 use mathlib.Core.Path.{_≡_, refl}
 use mathlib.Core.List.{List, [], _∷_}
 use Prim.Native.Nat.{ℕ, _+_, _-_}

@@ -27,7 +27,7 @@ pub run-end : (p : ℕ → Bool) (s : List ℕ) (i : ℕ) → length s ≤ i →
 unfolding run
 run-end p s i h = rw (drop-of-length-le s h)
 
--- A loop that looks for the place e where a run ends, and stands at i: it goes on, it is there by the octet at i, or by the end.
+-- A loop that looks for the position e where a run ends, and stands at i: it goes on, it is there by the octet at i, or by the end.
 pub run-step : (p : ℕ → Bool) (s : List ℕ) (i e : ℕ) → i < length s → p (getD s i 0) ≡ true → e ≡ i + run p (drop i s) → e ≡ (i + 1) + run p (drop (i + 1) s)
 run-step p s i e h t q = omega (arith, run-more p s i h t)
 
@@ -124,7 +124,7 @@ module _ (s : List ℕ) (i e : ℕ) (h : i ≤ e) where
   pub part-length : e ≤ length s → length (take (e - i) (drop i s)) ≡ e - i
   part-length g = length-take-le (e - i) (drop i s) (omega (arith, length-drop i s))
 
--- ---- a run that starts at a place of a longer text
+-- ---- a run that starts at a position of a longer text
 
 -- it ends inside where it starts inside
 pub run-inside : (p : ℕ → Bool) (s : List ℕ) (b e : ℕ) → b ≤ length s → e ≡ b + run p (drop b s) → e ≤ length s

@@ -12,14 +12,14 @@ unfoldable pub fitsAt : List ℕ → ℕ → List ℕ → Bool
 fitsAt out at src = leb (at + length src) (length out)
 
 -- the buffer with src from `at` on; as it was where src does not fit
-unfoldable pub placed : List ℕ → ℕ → List ℕ → List ℕ
-placed out at src = choose (fitsAt out at src) (take at out ++ (src ++ drop (at + length src) out)) out
+unfoldable pub putAt : List ℕ → ℕ → List ℕ → List ℕ
+putAt out at src = choose (fitsAt out at src) (take at out ++ (src ++ drop (at + length src) out)) out
 
--- the next place: `at` itself where nothing was written
-unfoldable pub placeAfter : List ℕ → ℕ → List ℕ → ℕ
-placeAfter out at src = choose (fitsAt out at src) (at + length src) at
+-- the next position: `at` itself where nothing was written
+unfoldable pub positionAfter : List ℕ → ℕ → List ℕ → ℕ
+positionAfter out at src = choose (fitsAt out at src) (at + length src) at
 
--- what a writer of a part of a line promises: a part that has room is placed
-abbrev pub PlacedInRoom : List ℕ → ℕ → List ℕ → ℕ → List ℕ → Type 0
-PlacedInRoom out at part next after =
-    at + length part ≤ length out → (next ≡ placeAfter out at part) × (after ≡ placed out at part)
+-- what a writer of a part of a line promises: a part that has room is put
+abbrev pub PutInRoom : List ℕ → ℕ → List ℕ → ℕ → List ℕ → Type 0
+PutInRoom out at part next after =
+    at + length part ≤ length out → (next ≡ positionAfter out at part) × (after ≡ putAt out at part)

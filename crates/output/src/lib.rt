@@ -4,7 +4,7 @@ ghost use Prim.Native.Nat.{min, _+_, _%_, _≤_};
 ghost use lib.Dec.{leb};
 ghost use lib.ListN.{length, replicate};
 ghost use Rattle.rules.specs.Octets.{decimal};
-ghost use Rattle.output.specs.Buffer.{placed, placeAfter};
+ghost use Rattle.output.specs.Buffer.{putAt, positionAfter};
 
 // The most octets that are moved at once.
 const BLOCK: usize = 1024;
@@ -19,10 +19,10 @@ pub fn has_room(length: usize, at: usize, n: usize) -> bool
     n <= length - at
 }
 
-// All of `src` from `at` on, or nothing; the next place.
+// All of `src` from `at` on, or nothing; the next position.
 pub fn put(out: &mut [u8], at: usize, src: &[u8]) -> usize
-    ensures { λ r. ⌜ r ≡ placeAfter (now (out .entry)) at (now (src .entry)) ⌝ }
-    ensures { λ r. ⌜ now (out .exit) ≡ placed (now (out .entry)) at (now (src .entry)) ⌝ }
+    ensures { λ r. ⌜ r ≡ positionAfter (now (out .entry)) at (now (src .entry)) ⌝ }
+    ensures { λ r. ⌜ now (out .exit) ≡ putAt (now (out .entry)) at (now (src .entry)) ⌝ }
 {
     if !has_room(out.len(), at, src.len()) {
         return at;
@@ -51,7 +51,7 @@ fn block_length(left: usize) -> usize
 // Through an array of its own, which lies in neither slice: the compiler then makes one move of the two copies, and no array.
 fn put_block(out: &mut [u8], at: usize, src: &[u8])
     requires { ⌜ (length (now src) ≤ 1024) × (at + length (now src) ≤ length (now out)) ⌝ }
-    ensures { λ _. ⌜ now (out .exit) ≡ placed (now (out .entry)) at (now (src .entry)) ⌝ }
+    ensures { λ _. ⌜ now (out .exit) ≡ putAt (now (out .entry)) at (now (src .entry)) ⌝ }
 {
     let mut block = [0u8; BLOCK];
     copy(&mut block, 0, src);
@@ -60,7 +60,7 @@ fn put_block(out: &mut [u8], at: usize, src: &[u8])
 
 fn copy(out: &mut [u8], at: usize, src: &[u8])
     requires { ⌜ at + length (now src) ≤ length (now out) ⌝ }
-    ensures { λ _. ⌜ now (out .exit) ≡ placed (now (out .entry)) at (now (src .entry)) ⌝ }
+    ensures { λ _. ⌜ now (out .exit) ≡ putAt (now (out .entry)) at (now (src .entry)) ⌝ }
 {
     let mut i = 0;
     while i < src.len() {
@@ -71,7 +71,7 @@ fn copy(out: &mut [u8], at: usize, src: &[u8])
 
 // Sixteen octets as an array; zeros where there are more than sixteen, and behind fewer.
 pub fn sixteen(octets: &[u8]) -> [u8; 16]
-    ensures { λ r. ⌜ r ≡ placed (replicate 16 0) 0 (now (octets .entry)) ⌝ }
+    ensures { λ r. ⌜ r ≡ putAt (replicate 16 0) 0 (now (octets .entry)) ⌝ }
 {
     let mut sixteen = [0u8; 16];
     put(&mut sixteen, 0, octets);
@@ -80,7 +80,7 @@ pub fn sixteen(octets: &[u8]) -> [u8; 16]
 
 // Four octets as an array; zeros where there are more than four, and behind fewer.
 pub fn four(octets: &[u8]) -> [u8; 4]
-    ensures { λ r. ⌜ r ≡ placed (replicate 4 0) 0 (now (octets .entry)) ⌝ }
+    ensures { λ r. ⌜ r ≡ putAt (replicate 4 0) 0 (now (octets .entry)) ⌝ }
 {
     let mut four = [0u8; 4];
     put(&mut four, 0, octets);
@@ -108,8 +108,8 @@ pub fn decimal_length(n: u16) -> usize
 
 // The five last digits of the number, without the zeros in front.
 pub fn put_decimal(out: &mut [u8], at: usize, n: u16) -> usize
-    ensures { λ r. ⌜ r ≡ placeAfter (now (out .entry)) at (decimal n) ⌝ }
-    ensures { λ r. ⌜ now (out .exit) ≡ placed (now (out .entry)) at (decimal n) ⌝ }
+    ensures { λ r. ⌜ r ≡ positionAfter (now (out .entry)) at (decimal n) ⌝ }
+    ensures { λ r. ⌜ now (out .exit) ≡ putAt (now (out .entry)) at (decimal n) ⌝ }
 {
     let tens = n / 10;
     let hundreds = tens / 10;

@@ -37,20 +37,20 @@ isEnded Place.Passing = false
 isEnded Place.Ended = true
 
 -- "a server line is flowing, or the server direction has ended"
-unfoldable pub flowsOrEnded : Place → Bool
-flowsOrEnded Place.Holding = false
-flowsOrEnded Place.Flowing = true
-flowsOrEnded Place.Passing = false
-flowsOrEnded Place.Ended = true
+unfoldable pub isFlowingOrEnded : Place → Bool
+isFlowingOrEnded Place.Holding = false
+isFlowingOrEnded Place.Flowing = true
+isFlowingOrEnded Place.Passing = false
+isFlowingOrEnded Place.Ended = true
 
 -- "all later ones pass at once", unless the direction has ended
-abbrev pub passesFromNow : Direction → Place → Direction
-passesFromNow d Place.Holding = at Place.Passing 0
-passesFromNow d Place.Flowing = at Place.Passing 0
-passesFromNow d Place.Passing = at Place.Passing 0
-passesFromNow d Place.Ended = d
+abbrev pub directionFromNow : Direction → Place → Direction
+directionFromNow d Place.Holding = at Place.Passing 0
+directionFromNow d Place.Flowing = at Place.Passing 0
+directionFromNow d Place.Passing = at Place.Passing 0
+directionFromNow d Place.Ended = d
 
 -- this page's definitions, for a proof that computes with them
 unfoldable pub places-opened : Unit {0}
-unfolding flowsOrEnded
+unfolding isFlowingOrEnded
 places-opened = tt

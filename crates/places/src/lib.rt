@@ -5,7 +5,7 @@ ghost use Prim.Native.Nat.{_+_, _<_};
 ghost use lib.Dec.{ltb};
 ghost use lib.ListN.{take};
 ghost use Rattle.rules.specs.Lines.{judged};
-ghost use Rattle.places.specs.Places.{at, isHolding, isFlowing, isPassing, isEnded, passesFromNow};
+ghost use Rattle.places.specs.Places.{at, isHolding, isFlowing, isPassing, isEnded, directionFromNow};
 use rules::HELD;
 
 pub const LF: u8 = 10;
@@ -96,7 +96,7 @@ pub fn has_ended(direction: Direction) -> bool
 
 // The direction, whose octets pass at once from now on unless it has ended.
 pub fn passes_from_now(direction: Direction) -> Direction
-    ensures { λ r. ⌜ r ≡ passesFromNow direction (direction .place) ⌝ }
+    ensures { λ r. ⌜ r ≡ directionFromNow direction (direction .place) ⌝ }
 {
     let place = direction.place;
     match place {

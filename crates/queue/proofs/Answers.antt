@@ -10,7 +10,7 @@ use Rattle.rules.specs.declared.Kind.{Kind}
 use Rattle.rules.specs.declared.OwnAnswer.{OwnAnswer}
 use Rattle.own.proofs.Lengths.{answer-most}
 use Rattle.queue.specs.Kinds.{kindOf, queueOf, answersAtHead}
-use Rattle.queue.specs.declared.Next.{Next}
+use Rattle.queue.specs.declared.NextAnswer.{NextAnswer}
 use Rattle.queue.specs.Heads.{answerOf, answerFirst}
 
 module _ (kinds : List ℕ) (i owed : ℕ) where
@@ -77,7 +77,7 @@ pub none-at-end : (ks : List Kind) → ks ≡ [] → NoAnswer ks
 unfolding answersAtHead headAnswers
 none-at-end ks e = record { count = ap answersAtHead e; text = ap headAnswers e }
 
-pub stops : (ks : List Kind) {n : Next} → n ≡ answerFirst ks → n ≡ Next.Nothing → NoAnswer ks
+pub stops : (ks : List Kind) {n : NextAnswer} → n ≡ answerFirst ks → n ≡ NextAnswer.Nothing → NoAnswer ks
 unfolding answerOf answerFirst answersAtHead headAnswers
 stops [] e f = record { count = refl; text = refl }
 stops (Kind.Plain ∷ ks) e f = record { count = refl; text = refl }
@@ -85,7 +85,7 @@ stops (Kind.TranslatedEpsv ∷ ks) e f = record { count = refl; text = refl }
 stops (Kind.Own a ∷ ks) e f = let z : _≡_ {A = ℕ} 0 1 = cc in absurd (omega arith)
 stops (Kind.Auth ∷ ks) e f = record { count = refl; text = refl }
 
-first-answer : (a : OwnAnswer) (ks : List Kind) {n : Next} → n ≡ answerFirst ks → n ≡ Next.Answer a → OneAnswer a ks (drop 1 ks)
+first-answer : (a : OwnAnswer) (ks : List Kind) {n : NextAnswer} → n ≡ answerFirst ks → n ≡ NextAnswer.Answer a → OneAnswer a ks (drop 1 ks)
 unfolding answerOf answerFirst answersAtHead headAnswers
 first-answer a [] e f = let z : _≡_ {A = ℕ} 0 1 = cc in absurd (omega arith)
 first-answer a (Kind.Plain ∷ ks) e f = let z : _≡_ {A = ℕ} 0 1 = cc in absurd (omega arith)
@@ -102,6 +102,6 @@ first-answer a (Kind.Own b ∷ ks) e f =
 first-answer a (Kind.Auth ∷ ks) e f = let z : _≡_ {A = ℕ} 0 1 = cc in absurd (omega arith)
 
 -- the own answer at number i of a queue, and those from the next number on
-pub goes-on : (ks : List Kind) (i : ℕ) (a : OwnAnswer) {n : Next} → n ≡ answerFirst (drop i ks) → n ≡ Next.Answer a
+pub goes-on : (ks : List Kind) (i : ℕ) (a : OwnAnswer) {n : NextAnswer} → n ≡ answerFirst (drop i ks) → n ≡ NextAnswer.Answer a
     → OneAnswer a (drop i ks) (drop (i + 1) ks)
 goes-on ks i a e f = rw drop-drop at (first-answer a (drop i ks) e f)

@@ -19,14 +19,14 @@ none-shifted kinds by owed h =
     let zero : owed - by ≡ 0 = omega arith in
     rw (drop-of-length-le (take owed kinds) {i = by} (simp length-take (omega arith)), zero)
 
--- by no places
+-- by no positions
 pub shifted-none : (kinds : List ℕ) (owed : ℕ) → shifted kinds 0 owed ≡ kinds
 unfolding shifted
 shifted-none kinds owed =
     let all : owed - 0 ≡ owed = omega arith in
     ap (λ (n : ℕ). take owed kinds ++ drop n kinds) all ∙ take-append-drop owed kinds
 
--- number i goes to its place
+-- number i goes to its position
 pub one-shifted : (kinds : List ℕ) (by i : ℕ) → by ≤ i → i < length kinds
     → set (shifted kinds by i) (i - by) (getD kinds i 0) ≡ shifted kinds by (i + 1)
 unfolding shifted
@@ -60,7 +60,7 @@ not-moved kinds by i h k =
     ap (λ (n : ℕ). getD (before ++ behind) n 0) place ∙ getD-append-add before behind by 0 ∙ getD-drop (i - by) kinds by 0
     ∙ ap (λ (n : ℕ). getD kinds n 0) same
 
--- so it can go to its place where it lies
+-- so it can go to its position where it lies
 pub next-shifted : (kinds : List ℕ) (by i : ℕ) {l : List ℕ} → l ≡ shifted kinds by i → by ≤ i → i < length kinds
     → set l (i - by) (getD l i 0) ≡ shifted kinds by (i + 1)
 next-shifted kinds by i e h k =

@@ -6,20 +6,20 @@ use lib.ListN.{length, drop}
 use Rattle.rules.specs.Octets.{choose}
 use Rattle.rules.specs.Replies.{headAnswers, authAtHead}
 use Rattle.rules.specs.declared.Kind.{Kind}
-use Rattle.queue.specs.declared.Next.{Next}
+use Rattle.queue.specs.declared.NextAnswer.{NextAnswer}
 use Rattle.queue.specs.declared.Plan.{Plan}
 use Rattle.queue.specs.Kinds.{answersAtHead}
 
 -- a kind as an own answer, if it is one
-unfoldable pub answerOf : Kind → Next
-answerOf Kind.Plain = Next.Nothing
-answerOf Kind.TranslatedEpsv = Next.Nothing
-answerOf (Kind.Own a) = Next.Answer a
-answerOf Kind.Auth = Next.Nothing
+unfoldable pub answerOf : Kind → NextAnswer
+answerOf Kind.Plain = NextAnswer.Nothing
+answerOf Kind.TranslatedEpsv = NextAnswer.Nothing
+answerOf (Kind.Own a) = NextAnswer.Answer a
+answerOf Kind.Auth = NextAnswer.Nothing
 
 -- the own answer that comes first
-unfoldable pub answerFirst : List Kind → Next
-answerFirst [] = Next.Nothing
+unfoldable pub answerFirst : List Kind → NextAnswer
+answerFirst [] = NextAnswer.Nothing
 answerFirst (k ∷ ks) = answerOf k
 
 -- ---- own answers and the AUTH step, where `blocked` answers have to wait

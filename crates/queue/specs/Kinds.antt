@@ -70,7 +70,7 @@ unfoldable pub pushed : List ℕ → ℕ → Owes → List ℕ
 pushed kinds owed Owes.Nothing = kinds
 pushed kinds owed (Owes.One k) = set kinds owed (codeOf k)
 
--- the numbers moved n places to the front; those behind the last one owed stay
+-- the numbers moved n positions to the front; those behind the last one owed stay
 unfoldable pub shifted : List ℕ → ℕ → ℕ → List ℕ
 shifted kinds n owed = drop n (take owed kinds) ++ drop (owed - n) kinds
 

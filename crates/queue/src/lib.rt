@@ -5,7 +5,7 @@ ghost use Prim.Native.Nat.{_+_, _≤_};
 ghost use lib.ListN.{length, drop};
 ghost use Rattle.rules.specs.Replies.{headAnswers, authAtHead};
 ghost use Rattle.rules.specs.Answers.{mostAnswers};
-ghost use Rattle.output.specs.Buffer.{placed, placeAfter};
+ghost use Rattle.output.specs.Buffer.{putAt, positionAfter};
 ghost use Rattle.queue.specs.Kinds.{answerCode, codeOf, stateKind, kindOf, queueOf, headOf, answersAtHead, pushed, shiftedIn, isStill};
 ghost use Rattle.queue.specs.Heads.{answerFirst, planOf};
 use own::answer_length;
@@ -90,7 +90,7 @@ pub struct Plan {
 }
 
 // An own answer that comes next, or none.
-enum Next {
+enum NextAnswer {
     Answer(OwnAnswer),
     Nothing,
 }
@@ -106,21 +106,21 @@ pub fn first_owed(kinds: Kinds, owed: usize) -> Owes
 }
 
 // The own answer that is number `i` of the kinds owed.
-fn answer_at(kinds: Kinds, i: usize, owed: usize) -> Next
+fn answer_at(kinds: Kinds, i: usize, owed: usize) -> NextAnswer
     ensures { λ r. ⌜ r ≡ answerFirst (drop i (queueOf kinds owed)) ⌝ }
 {
     if owed <= i {
-        return Next::Nothing;
+        return NextAnswer::Nothing;
     }
     if OWED <= i {
-        return Next::Nothing;
+        return NextAnswer::Nothing;
     }
     let kind = kind_of(kinds[i]);
     match kind {
-        Kind::Own(answer) => Next::Answer(answer),
-        Kind::Plain => Next::Nothing,
-        Kind::TranslatedEpsv => Next::Nothing,
-        Kind::Auth => Next::Nothing,
+        Kind::Own(answer) => NextAnswer::Answer(answer),
+        Kind::Plain => NextAnswer::Nothing,
+        Kind::TranslatedEpsv => NextAnswer::Nothing,
+        Kind::Auth => NextAnswer::Nothing,
     }
 }
 
@@ -133,7 +133,7 @@ fn due(kinds: Kinds, from: usize, owed: usize) -> AnswersDue
     let mut octets = 0;
     while until < OWED {
         let next = answer_at(kinds, until, owed);
-        let Next::Answer(answer) = next else {
+        let NextAnswer::Answer(answer) = next else {
             return AnswersDue {
                 until,
                 length: octets,
@@ -148,10 +148,10 @@ fn due(kinds: Kinds, from: usize, owed: usize) -> AnswersDue
     }
 }
 
-// Those answers from `at` on, or nothing where they do not all fit; the next place.
+// Those answers from `at` on, or nothing where they do not all fit; the next position.
 pub fn put_answers(out: &mut [u8], at: usize, kinds: Kinds, from: usize, owed: usize) -> usize
-    ensures { λ r. ⌜ r ≡ placeAfter (now (out .entry)) at (headAnswers (drop from (queueOf kinds owed))) ⌝ }
-    ensures { λ r. ⌜ now (out .exit) ≡ placed (now (out .entry)) at (headAnswers (drop from (queueOf kinds owed))) ⌝ }
+    ensures { λ r. ⌜ r ≡ positionAfter (now (out .entry)) at (headAnswers (drop from (queueOf kinds owed))) ⌝ }
+    ensures { λ r. ⌜ now (out .exit) ≡ putAt (now (out .entry)) at (headAnswers (drop from (queueOf kinds owed))) ⌝ }
 {
     if out.len() < at {
         return at;
@@ -164,7 +164,7 @@ pub fn put_answers(out: &mut [u8], at: usize, kinds: Kinds, from: usize, owed: u
     let mut i = from;
     while i < OWED {
         let next = answer_at(kinds, i, owed);
-        let Next::Answer(answer) = next else {
+        let NextAnswer::Answer(answer) = next else {
             return place;
         };
         place = put_answer(out, place, answer);
@@ -249,7 +249,7 @@ pub fn planned(kinds: Kinds, from: usize, owed: usize, blocked: bool) -> Plan
     }
 }
 
-// The kinds are moved `by` places to the front, where they lie.
+// The kinds are moved `by` positions to the front, where they lie.
 pub fn shift(kinds: &mut [u8], by: usize, owed: usize)
     ensures { λ _. ⌜ now (kinds .exit) ≡ shiftedIn (now (kinds .entry)) by owed ⌝ }
 {

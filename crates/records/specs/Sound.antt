@@ -15,7 +15,7 @@ use Rattle.places.specs.declared.Direction.{Direction}
 use Rattle.records.specs.declared.Control.{Control}
 use Rattle.records.specs.declared.Session.{Session}
 use Rattle.records.specs.declared.Refusal.{Refusal}
-use Rattle.places.specs.Places.{isHolding, isEnded, flowsOrEnded}
+use Rattle.places.specs.Places.{isHolding, isEnded, isFlowingOrEnded}
 
 -- "over 511 octets held, or octets held where the line already flows, the direction has ended or its octets pass at once"
 unfoldable pub soundDirection : Direction → Bool
@@ -67,7 +67,7 @@ sideIf false = server
 
 -- "unless a reply is unfinished, a server line is flowing, or the server direction has ended"
 unfoldable pub blocked : Control → Bool
-blocked c = c .unfinished || flowsOrEnded (c .server .place)
+blocked c = c .unfinished || isFlowingOrEnded (c .server .place)
 
 -- this page's definitions, for a proof that computes with them
 unfoldable pub sound-opened : Unit {0}

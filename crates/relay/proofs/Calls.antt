@@ -9,7 +9,7 @@ use Rattle.rules.specs.Octets.{choose}
 use Rattle.rules.specs.Answers.{answerNumber}
 use Rattle.rules.specs.declared.Answer.{Answer}
 use Rattle.records.specs.Layout.{imageSize}
-use Rattle.output.specs.Buffer.{placed}
+use Rattle.output.specs.Buffer.{putAt}
 use Rattle.session.specs.declared.Called.{Called}
 use Rattle.session.specs.declared.Prepared.{Prepared}
 use Rattle.records.specs.declared.Session.{Session}
@@ -37,8 +37,8 @@ module _ (client mapped : List ℕ) (flags : ℕ) where
   from-slices e f = rw (eq-eqb (length client) 16 e, eq-eqb (length mapped) 4 f)
 
   -- a setup on copies of the two addresses
-  pub set-up : {a m : List ℕ} {p : Prepared} → length client ≡ 16 → length mapped ≡ 4 → a ≡ placed (replicate 16 0) 0 client
-      → m ≡ placed (replicate 4 0) 0 mapped → p ≡ prepared a m flags → p ≡ preparedFrom client mapped flags
+  pub set-up : {a m : List ℕ} {p : Prepared} → length client ≡ 16 → length mapped ≡ 4 → a ≡ putAt (replicate 16 0) 0 client
+      → m ≡ putAt (replicate 4 0) 0 mapped → p ≡ prepared a m flags → p ≡ preparedFrom client mapped flags
   set-up {a} {m} e f same same′ made =
       made ∙ (ap (λ (x : List ℕ). prepared x m flags) (same ∙ filled 16 client e) ∙ (ap (λ (x : List ℕ). prepared client x flags) (same′ ∙ filled 4 mapped f) ∙ sym (from-slices e f)))
 
@@ -52,10 +52,10 @@ module _ (image : List ℕ) (p : Prepared) {n : ℕ} where
   room h e = rw (le-leb imageSize (length image) h) e
 
 -- the same of the setup that was asked for
-pub setup-told : (image : List ℕ) {p q : Prepared} {n : ℕ} {image′ : List ℕ} → p ≡ q → n ≡ setupNumber image p → image′ ≡ placed image 0 (imageOf (p .session))
-    → (n ≡ setupNumber image q) × (image′ ≡ placed image 0 (imageOf (q .session)))
+pub setup-told : (image : List ℕ) {p q : Prepared} {n : ℕ} {image′ : List ℕ} → p ≡ q → n ≡ setupNumber image p → image′ ≡ putAt image 0 (imageOf (p .session))
+    → (n ≡ setupNumber image q) × (image′ ≡ putAt image 0 (imageOf (q .session)))
 setup-told image e number put =
-    (number ∙ ap (setupNumber image) e, put ∙ ap (λ (x : Prepared). placed image 0 (imageOf (x .session))) e)
+    (number ∙ ap (setupNumber image) e, put ∙ ap (λ (x : Prepared). putAt image 0 (imageOf (x .session))) e)
 
 -- ---- the image after a call
 
@@ -64,7 +64,7 @@ module _ (image : List ℕ) (k : Called) {n : ℕ} (number : n ≡ answerNumber 
   unfolding imageAfter choose
   kept h = rw (le-leb 3 (answerNumber (k .answer)) (omega arith))
 
-  pub written-back : n < 3 → placed image 0 (imageOf (k .session)) ≡ imageAfter image k
+  pub written-back : n < 3 → putAt image 0 (imageOf (k .session)) ≡ imageAfter image k
   unfolding imageAfter choose
   written-back h = rw (lt-leb 3 (answerNumber (k .answer)) (omega arith))
 

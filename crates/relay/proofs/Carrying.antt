@@ -13,15 +13,15 @@ use Rattle.rules.specs.Lines.{judged}
 use Rattle.rules.specs.Answers.{Side, wrapped, answerNumber}
 use Rattle.rules.specs.declared.Answer.{Answer}
 use Rattle.records.specs.Layout.{imageSize}
-use Rattle.output.specs.Buffer.{placed}
-use Rattle.output.proofs.Placing.{length-placed}
+use Rattle.output.specs.Buffer.{putAt}
+use Rattle.output.proofs.Placing.{length-put}
 use Rattle.records.specs.declared.Session.{Session}
 use Rattle.session.specs.Bounds.{Shaped}
 use Rattle.steps.specs.Steps.{Step}
 use Rattle.steps.specs.Takes.{Took}
-use Rattle.session.specs.Calls.{Outcome, refused, unlessRefused, outcome, sessionAfter, arrived, endOutcome, ended, prepared, deadSession, freshSession}
-use Rattle.output.proofs.Front.{front-placed}
-use Rattle.answers.specs.Table.{Call, Result, arrival, ending, Sound, BadFlags}
+use Rattle.session.specs.Calls.{Outcome, refused, unlessRefused, outcome, sessionAfter, arrived, endOutcome, endCalled, prepared, deadSession, freshSession}
+use Rattle.output.proofs.Front.{front-put}
+use Rattle.answers.specs.Table.{Situation, Result, ofArrival, ofEnd, Sound, BadFlags}
 use Rattle.answers.proofs.Refusals.{sound-words}
 use Rattle.answers.proofs.Kept.{calls-keep, fresh-kept}
 use Rattle.answers.proofs.Table.{refused-untouched, end-two, end-two-untouched, five, setup-zero}
@@ -29,7 +29,7 @@ use Rattle.image.specs.Image.{imageOf, fieldsIn, isImage, sessionOf, Sized, Wra
 use Rattle.image.proofs.Writing.{image-length}
 use Rattle.image.proofs.Back.{read-back}
 use Rattle.image.proofs.Again.{record-lies}
-use Rattle.image.specs.Lent.{endedAt, imageAfter}
+use Rattle.image.specs.Lent.{endedOn, imageAfter}
 use Rattle.relay.specs.Carried.{Holds, Begun, Carried, EndKeeps}
 use Rattle.relay.proofs.Calls.{from-slices, kept, written-back}
 
@@ -39,14 +39,14 @@ sizes s h e = record { client = e; mapped = h .mapped; kinds = h .kinds; command
 
 -- a record that is put into memory with room for it is held there
 put-holds : (image : List ℕ) (s : Session) → imageSize ≤ length image → Shaped s → length (s .client) ≡ 16 → Wrapped (s .up) → Wrapped (s .down)
-    → Sound s → Holds (placed image 0 (imageOf s)) s
+    → Sound s → Holds (putAt image 0 (imageOf s)) s
 put-holds image s room shape e up down w =
     let size = sizes s shape e in
     let long = image-length s size in
     let fits : length (imageOf s) ≤ length image = omega arith in
     record {
-      room = omega (arith, length-placed image 0 (imageOf s) (omega arith));
-      read = rw (front-placed image (imageOf s) fits) (read-back s (drop (length (imageOf s)) image) size up down (sound-words s .1 w));
+      room = omega (arith, length-put image 0 (imageOf s) (omega arith));
+      read = rw (front-put image (imageOf s) fits) (read-back s (drop (length (imageOf s)) image) size up down (sound-words s .1 w));
       shaped = shape;
       client = e;
       up = up;
@@ -85,10 +85,10 @@ module _ (s : Session) (up : Wrapped (s .up)) (down : Wrapped (s .down)) where
   end-fixed d t true = outcome-fixed s d _
   end-fixed d t false = same-fixed Answer.NoRoom
 
-call-fixed : (c : Call) (o : Outcome) → Wrapped (c .session .up) → Wrapped (c .session .down) → Result c o → Fixed (c .session) o
-unfolding arrived ended
-call-fixed c o up down (arrival octets) = unless-fixed (c .session) up down _ _ (outcome-fixed (c .session) _ _)
-call-fixed c o up down ending = unless-fixed (c .session) up down _ _ (end-fixed (c .session) up down _ _ _)
+call-fixed : (c : Situation) (o : Outcome) → Wrapped (c .session .up) → Wrapped (c .session .down) → Result c o → Fixed (c .session) o
+unfolding arrived endCalled
+call-fixed c o up down (ofArrival octets) = unless-fixed (c .session) up down _ _ (outcome-fixed (c .session) _ _)
+call-fixed c o up down ofEnd = unless-fixed (c .session) up down _ _ (end-fixed (c .session) up down _ _ _)
 
 -- ---- setup
 
@@ -136,10 +136,10 @@ not-dead image true e = refl
 not-dead image false e = e
 
 pub end-keeps : EndKeeps
-unfolding endedAt sessionOf
+unfolding endedOn sessionOf
 end-keeps image direction toServer toClient octets two =
-    let c : Call = record { session = sessionOf image; direction = direction; serverRoom = length toServer; clientRoom = length toClient } in
-    let k = ended (sessionOf image) direction (length toServer) (length toClient) .called in
+    let c : Situation = record { session = sessionOf image; direction = direction; serverRoom = length toServer; clientRoom = length toClient } in
+    let k = endCalled (sessionOf image) direction (length toServer) (length toClient) .called in
     let ok = not-dead image (isImage image) (end-two c .0 two .0 .sound .live) in
     sym (written-back image k refl (omega arith))
-    ∙ (ap (λ (s : Session). placed image 0 (imageOf s)) (end-two-untouched c two .session) ∙ record-lies image ok octets)
+    ∙ (ap (λ (s : Session). putAt image 0 (imageOf s)) (end-two-untouched c two .session) ∙ record-lies image ok octets)

@@ -9,13 +9,13 @@ use Rattle.rules.specs.Octets.{every}
 use Rattle.rules.specs.Answers.{answerNumber}
 use Rattle.rules.specs.declared.Answer.{Answer}
 use Rattle.records.specs.Layout.{imageSize}
-use Rattle.output.specs.Buffer.{placed}
+use Rattle.output.specs.Buffer.{putAt}
 use Rattle.records.specs.declared.Session.{Session}
 use Rattle.session.specs.Bounds.{Shaped}
 use Rattle.session.specs.Calls.{Outcome, freshSession}
-use Rattle.answers.specs.Table.{Call, Result, Sound}
+use Rattle.answers.specs.Table.{Situation, Result, Sound}
 use Rattle.image.specs.Image.{imageOf, sessionOf, Wrapped}
-use Rattle.image.specs.Lent.{endedAt, imageAfter}
+use Rattle.image.specs.Lent.{endedOn, imageAfter}
 use Rattle.relay.specs.Host.{preparedFrom}
 
 -- a record is read from the memory, and number 4 does not refuse it; the sizes are those of its types
@@ -33,17 +33,17 @@ abbrev pub Begun : Type 0
 Begun =
     (image client mapped : List ℕ) (flags : ℕ) → imageSize ≤ length image → length client ≡ 16 → length mapped ≡ 4
     → every (λ n. leb n 255) mapped ≡ true → preparedFrom client mapped flags .answer ≡ Answer.Done
-    → Holds (placed image 0 (imageOf (preparedFrom client mapped flags .session))) (freshSession client mapped flags)
+    → Holds (putAt image 0 (imageOf (preparedFrom client mapped flags .session))) (freshSession client mapped flags)
 
 -- after an arrival or an end, whatever it answered, it holds the record that the session returned
 abbrev pub Carried : Type 0
 Carried =
-    (image : List ℕ) (c : Call) (o : Outcome) → Holds image (c .session) → Result c o
+    (image : List ℕ) (c : Situation) (o : Outcome) → Holds image (c .session) → Result c o
     → Holds (imageAfter image (o .called)) (o .called .session)
 
 -- "if they do not fit, answer 2 and nothing changes": the octets of the memory are the same
 abbrev pub EndKeeps : Type 0
 EndKeeps =
     (image : List ℕ) (direction : ℕ) (toServer toClient : List ℕ) → ((i : ℕ) → getD image i 0 < 256)
-    → answerNumber (endedAt image direction toServer toClient .called .answer) ≡ 2
-    → imageAfter image (endedAt image direction toServer toClient .called) ≡ image
+    → answerNumber (endedOn image direction toServer toClient .called .answer) ≡ 2
+    → imageAfter image (endedOn image direction toServer toClient .called) ≡ image

@@ -2,10 +2,10 @@
 // relay/fashlemor.h declares them.
 ghost use mathlib.Core.Path.{_≡_};
 ghost use Rattle.rules.specs.Answers.{answerNumber};
-ghost use Rattle.output.specs.Buffer.{placed};
+ghost use Rattle.output.specs.Buffer.{putAt};
 ghost use Rattle.session.specs.Calls.{offset as offsetIn};
 ghost use Rattle.image.specs.Image.{imageOf, sessionOf};
-ghost use Rattle.image.specs.Lent.{arrivedAt, endedAt, imageAfter, serverAfter, clientAfter};
+ghost use Rattle.image.specs.Lent.{arrivedOn, endedOn, imageAfter, serverAfter, clientAfter};
 ghost use Rattle.relay.specs.Host.{preparedFrom, setupNumber, countsFrom, countsAfter, offsetNumber, offsetAfter};
 use image::arrive_at;
 use image::end_at;
@@ -27,7 +27,7 @@ use steps::Written;
 #[no_mangle]
 pub extern "C" fn fashlemor_setup(image: &mut [u8], client: &[u8], mapped: &[u8], flags: u8) -> u8
     ensures { λ r. ⌜ r ≡ setupNumber (now (image .entry)) (preparedFrom (now (client .entry)) (now (mapped .entry)) flags) ⌝ }
-    ensures { λ r. ⌜ now (image .exit) ≡ placed (now (image .entry)) 0 (imageOf (preparedFrom (now (client .entry)) (now (mapped .entry)) flags .session)) ⌝ }
+    ensures { λ r. ⌜ now (image .exit) ≡ putAt (now (image .entry)) 0 (imageOf (preparedFrom (now (client .entry)) (now (mapped .entry)) flags .session)) ⌝ }
 {
     let room = image.len();
     let p = prepare(client, mapped, flags);
@@ -63,11 +63,11 @@ pub extern "C" fn fashlemor_arrive(
     to_client: &mut [u8],
     counts: &mut [usize],
 ) -> u8
-    ensures { λ r. ⌜ r ≡ answerNumber (arrivedAt (now (image .entry)) direction (now (octets .entry)) (now («to_server» .entry)) (now («to_client» .entry)) .called .answer) ⌝ }
-    ensures { λ r. ⌜ now (image .exit) ≡ imageAfter (now (image .entry)) (arrivedAt (now (image .entry)) direction (now (octets .entry)) (now («to_server» .entry)) (now («to_client» .entry)) .called) ⌝ }
-    ensures { λ r. ⌜ now («to_server» .exit) ≡ serverAfter (arrivedAt (now (image .entry)) direction (now (octets .entry)) (now («to_server» .entry)) (now («to_client» .entry))) (now («to_server» .entry)) ⌝ }
-    ensures { λ r. ⌜ now («to_client» .exit) ≡ clientAfter (arrivedAt (now (image .entry)) direction (now (octets .entry)) (now («to_server» .entry)) (now («to_client» .entry))) (now («to_client» .entry)) ⌝ }
-    ensures { λ r. ⌜ now (counts .exit) ≡ countsAfter (arrivedAt (now (image .entry)) direction (now (octets .entry)) (now («to_server» .entry)) (now («to_client» .entry)) .called) (now (counts .entry)) ⌝ }
+    ensures { λ r. ⌜ r ≡ answerNumber (arrivedOn (now (image .entry)) direction (now (octets .entry)) (now («to_server» .entry)) (now («to_client» .entry)) .called .answer) ⌝ }
+    ensures { λ r. ⌜ now (image .exit) ≡ imageAfter (now (image .entry)) (arrivedOn (now (image .entry)) direction (now (octets .entry)) (now («to_server» .entry)) (now («to_client» .entry)) .called) ⌝ }
+    ensures { λ r. ⌜ now («to_server» .exit) ≡ serverAfter (arrivedOn (now (image .entry)) direction (now (octets .entry)) (now («to_server» .entry)) (now («to_client» .entry))) (now («to_server» .entry)) ⌝ }
+    ensures { λ r. ⌜ now («to_client» .exit) ≡ clientAfter (arrivedOn (now (image .entry)) direction (now (octets .entry)) (now («to_server» .entry)) (now («to_client» .entry))) (now («to_client» .entry)) ⌝ }
+    ensures { λ r. ⌜ now (counts .exit) ≡ countsAfter (arrivedOn (now (image .entry)) direction (now (octets .entry)) (now («to_server» .entry)) (now («to_client» .entry)) .called) (now (counts .entry)) ⌝ }
 {
     let told = arrive_at(image, direction, octets, to_server, to_client);
     let answer = told.answer;
@@ -85,11 +85,11 @@ pub extern "C" fn fashlemor_end(
     to_client: &mut [u8],
     counts: &mut [usize],
 ) -> u8
-    ensures { λ r. ⌜ r ≡ answerNumber (endedAt (now (image .entry)) direction (now («to_server» .entry)) (now («to_client» .entry)) .called .answer) ⌝ }
-    ensures { λ r. ⌜ now (image .exit) ≡ imageAfter (now (image .entry)) (endedAt (now (image .entry)) direction (now («to_server» .entry)) (now («to_client» .entry)) .called) ⌝ }
-    ensures { λ r. ⌜ now («to_server» .exit) ≡ serverAfter (endedAt (now (image .entry)) direction (now («to_server» .entry)) (now («to_client» .entry))) (now («to_server» .entry)) ⌝ }
-    ensures { λ r. ⌜ now («to_client» .exit) ≡ clientAfter (endedAt (now (image .entry)) direction (now («to_server» .entry)) (now («to_client» .entry))) (now («to_client» .entry)) ⌝ }
-    ensures { λ r. ⌜ now (counts .exit) ≡ countsAfter (endedAt (now (image .entry)) direction (now («to_server» .entry)) (now («to_client» .entry)) .called) (now (counts .entry)) ⌝ }
+    ensures { λ r. ⌜ r ≡ answerNumber (endedOn (now (image .entry)) direction (now («to_server» .entry)) (now («to_client» .entry)) .called .answer) ⌝ }
+    ensures { λ r. ⌜ now (image .exit) ≡ imageAfter (now (image .entry)) (endedOn (now (image .entry)) direction (now («to_server» .entry)) (now («to_client» .entry)) .called) ⌝ }
+    ensures { λ r. ⌜ now («to_server» .exit) ≡ serverAfter (endedOn (now (image .entry)) direction (now («to_server» .entry)) (now («to_client» .entry))) (now («to_server» .entry)) ⌝ }
+    ensures { λ r. ⌜ now («to_client» .exit) ≡ clientAfter (endedOn (now (image .entry)) direction (now («to_server» .entry)) (now («to_client» .entry))) (now («to_client» .entry)) ⌝ }
+    ensures { λ r. ⌜ now (counts .exit) ≡ countsAfter (endedOn (now (image .entry)) direction (now («to_server» .entry)) (now («to_client» .entry)) .called) (now (counts .entry)) ⌝ }
 {
     let done = end_at(image, direction, to_server, to_client);
     let answer = done.answer;

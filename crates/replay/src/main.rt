@@ -6,10 +6,10 @@ use libc::STDERR_FILENO;
 use libc::STDIN_FILENO;
 use libc::STDOUT_FILENO;
 use report::Part;
-use report::Progress;
+use report::PartState;
 
 // How many octets are read, or that reading failed.
-enum Reading {
+enum InputRead {
     Some(usize),
     Failed,
 }
@@ -47,26 +47,26 @@ fn replay_input(fd: i32, name: &[u8]) {
     let mut input = io::large_buffer();
     let reading = read_input(fd, &mut input);
     match reading {
-        Reading::Some(n) => replay_file(first(first(&input, n), LOOKED_AT)),
-        Reading::Failed => os::fail(name),
+        InputRead::Some(n) => replay_file(first(first(&input, n), LOOKED_AT)),
+        InputRead::Failed => os::fail(name),
     }
 }
 
 // Reads until the input ends, or the buffer is full.
-fn read_input(fd: i32, input: &mut [u8]) -> Reading {
+fn read_input(fd: i32, input: &mut [u8]) -> InputRead {
     let mut n = 0;
     while n < input.len() {
         let got = libc::read(fd, &mut input[n..]);
         if got < 0 {
-            return Reading::Failed;
+            return InputRead::Failed;
         }
         let more = io::count(got, &input[n..]);
         if more == 0 {
-            return Reading::Some(n);
+            return InputRead::Some(n);
         }
         n += more;
     }
-    Reading::Some(n)
+    InputRead::Some(n)
 }
 
 // The header or the refusal, and at most 48 entries (`few-parts` of the crate report).
@@ -101,7 +101,7 @@ fn left_of(part: Part) -> u16 {
 // Whether the part could be written. Each has room, and there is one while entries are left (`room-enough`, `goes-on` of the crate report).
 fn write_part(part: Part, out: &[u8]) -> bool {
     let progress = part.progress;
-    let Progress::Written = progress else {
+    let PartState::Written = progress else {
         io::write_all(STDERR_FILENO, b"the report is cut short\n");
         return false;
     };

@@ -77,7 +77,7 @@ passive-tests (x ∷ y ∷ []) b h e = absurd (omega arith)
 passive-tests (x ∷ y ∷ z ∷ []) b h e = absurd (omega arith)
 passive-tests (x ∷ y ∷ z ∷ w ∷ c) b h e = sym e
 
--- what a line gives without it, and with it by the place of the first digit after it
+-- what a line gives without it, and with it by the position of the first digit after it
 pub without-227 : (c : List ℕ) → startsWith227 c ≡ false → PassiveReply.Unreadable ≡ passiveReply c
 unfolding startsWith227 passiveReply choose
 without-227 c h = rw h

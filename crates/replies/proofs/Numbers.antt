@@ -1,4 +1,4 @@
--- Laws of the numbers of a 227 line, at a place of the line.
+-- Laws of the numbers of a 227 line, at a position of the line.
 use mathlib.Core.Path.{_≡_, refl}
 use mathlib.Core.Bool.{Bool, true, false, _&&_}
 use mathlib.Core.List.{List, [], _∷_}
@@ -31,7 +31,7 @@ number-limit most lo hi xs n h =
     limit (short && within lo hi (value xs)) (value xs) hi n
     (λ t. within-bounds lo hi (value xs) (and-both short (within lo hi (value xs)) t .1) .1) h
 
--- ---- what is read at a place
+-- ---- what is read at a position
 
 pub told-at : (s : List ℕ) (at end : ℕ) (x : Number) → end ≡ at + run digit (drop at s) → x ≡ numberRead (number 3 0 255 (take (end - at) (drop at s))) → endingAt end x ≡ numberAt s at
 unfolding numberAt

@@ -100,7 +100,7 @@ fn first_digit(s: &[u8], from: usize) -> usize
     i
 }
 
-// A number read at a place: its value, and where its digits end.
+// A number read at a position: its value, and where its digits end.
 enum NumberAt {
     Value(u8, usize),
     Unreadable,

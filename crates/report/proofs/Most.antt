@@ -16,7 +16,7 @@ use Rattle.rules.specs.declared.Answer.the-variants as a
 use Rattle.output.proofs.Decimal.{decimal-most}
 use Rattle.records.specs.declared.Session.{Session}
 use Rattle.steps.specs.Steps.{Step}
-use Rattle.session.specs.Calls.{Outcome, refused, unlessRefused, outcome, fixedOf, stateOf, arrived, endStep, endOutcome, ended, prepared}
+use Rattle.session.specs.Calls.{Outcome, refused, unlessRefused, outcome, fixedOf, stateOf, arrived, endStep, endOutcome, endCalled, prepared}
 use Rattle.records.specs.Sound.{refusalOf}
 use Rattle.steps.specs.Takes.{takes}
 use Rattle.octets.proofs.Ranges.{and-both}
@@ -26,10 +26,10 @@ use Rattle.files.specs.Contents.{count, verdict, verdictNumber}
 use Rattle.fields.specs.Report.{Done, outRoom, standsAsItself, hexGlyph, shown, shownAll, field, entryLine, setUp, runEntry, doneBy}
 use Rattle.fields.proofs.Fields.{line-of-parts, line-length, header-length, refused-length}
 use Rattle.files.proofs.Accepted.{accepted}
-use Rattle.report.specs.declared.Progress.{Progress}
+use Rattle.report.specs.declared.PartState.{PartState}
 use Rattle.report.specs.declared.Replay.{Replay}
 use Rattle.report.specs.Replays.{partOf, firstTextBy, firstText, firstPart, noReplay, firstReplay, entryAt, isDue, doneAt, entryText, nextText, nextReplay, nextPart}
-use Rattle.report.specs.Whole.{Parts, mostPart, PartMost, RoomEnough, Reached, GoesOn, AllWritten}
+use Rattle.report.specs.Whole.{Parts, mostPart, PartMost, RoomEnough, Reached, NextWritten, AllWritten}
 use Rattle.report.specs.Whole as parts
 use Rattle.report.proofs.Due.{Due, due}
 use Rattle.report.proofs.Runs.{told-arrived, told-ended}
@@ -94,8 +94,8 @@ roomy-end s d t m n true e =
     record { server = leb-true (length (t .toServer)) m (w .0); client = leb-true (length (t .toClient)) n (w .1) }
 roomy-end s d t m n false e = record { server = omega arith; client = omega arith }
 
-roomy-ended : (s : Session) (d m n : ℕ) → Roomy (ended s d m n) m n
-unfolding ended
+roomy-ended : (s : Session) (d m n : ℕ) → Roomy (endCalled s d m n) m n
+unfolding endCalled
 roomy-ended s d m n =
     let t = endStep (sideOf d) (stateOf s) in
     let b = fits (t .toServer) (t .toClient) m n in
@@ -118,13 +118,13 @@ small-arrival s k body =
       client = w .client;
     }
 
-small-end : (s : Session) (k n : ℕ) → Small (doneBy (ended s k outRoom outRoom)) n
+small-end : (s : Session) (k n : ℕ) → Small (doneBy (endCalled s k outRoom outRoom)) n
 unfolding outRoom
 small-end s k n =
     let w = roomy-ended s k outRoom outRoom in
     record {
       taken = omega (arith, told-ended s k outRoom outRoom .taken);
-      number = answer-most (ended s k outRoom outRoom .called .answer);
+      number = answer-most (endCalled s k outRoom outRoom .called .answer);
       server = w .server;
       client = w .client;
     }
@@ -177,18 +177,18 @@ part-most file = (first-most file (verdict file) refl, λ r. next-most file r (i
 
 -- ---- the room
 
-part-written : (text : List ℕ) (room : ℕ) (was then : Replay) → length text ≤ room → partOf text room was then .progress ≡ Progress.Written
+part-written : (text : List ℕ) (room : ℕ) (was then : Replay) → length text ≤ room → partOf text room was then .progress ≡ PartState.Written
 unfolding partOf choose
 part-written text room was then h = rw (le-leb (length text) room h)
 
-due-written : (file : List ℕ) (r : Replay) (room : ℕ) → mostPart ≤ room → isDue file r ≡ true → nextPart file r room .progress ≡ Progress.Written
+due-written : (file : List ℕ) (r : Replay) (room : ℕ) → mostPart ≤ room → isDue file r ≡ true → nextPart file r room .progress ≡ PartState.Written
 due-written file r room h d =
     rw (due-part file r d room) (part-written (nextText file r) room r (nextReplay file r) (omega (arith, part-most file .1 r)))
 
-never-full : (file : List ℕ) (r : Replay) (room : ℕ) → mostPart ≤ room → (b : Bool) → isDue file r ≡ b → nextPart file r room .progress ≡ Progress.NoRoom → ⊥
+never-full : (file : List ℕ) (r : Replay) (room : ℕ) → mostPart ≤ room → (b : Bool) → isDue file r ≡ b → nextPart file r room .progress ≡ PartState.NoRoom → ⊥
 unfolding nextPart choose
 never-full file r room h true d e = let w = due-written file r room h d in let z : _≡_ {A = ℕ} 0 1 = cc in omega arith
-never-full file r room h false d e = let o : Progress.Over ≡ Progress.NoRoom = rw d at e in let z : _≡_ {A = ℕ} 0 1 = cc in omega arith
+never-full file r room h false d e = let o : PartState.Over ≡ PartState.NoRoom = rw d at e in let z : _≡_ {A = ℕ} 0 1 = cc in omega arith
 
 pub room-enough : RoomEnough
 unfolding firstPart
@@ -197,7 +197,7 @@ room-enough file room h = (
   λ r. never-full file r room h (isDue file r) refl,
 )
 
-pub goes-on : GoesOn
+pub goes-on : NextWritten
 goes-on file r room reached more h = due-written file r room h (is-due file r (reached-stands file r reached more) more)
 
 -- ---- the parts to the end
@@ -205,7 +205,7 @@ goes-on file r room reached more h = due-written file r room h (is-due file r (r
 -- none, where none is left
 unless-none : (file : List ℕ) (r : Replay) (b : Bool) → eqb (r .left) 0 ≡ b → (1 ≤ r .left → (ps : List (List ℕ)) × Parts file r ps)
     → (ps : List (List ℕ)) × Parts file r ps
-unless-none file r true e f = ([], parts.none (eqb-true (r .left) 0 e))
+unless-none file r true e f = ([], parts.noParts (eqb-true (r .left) 0 e))
 unless-none file r false e f = f (omega (arith, eqb-false (r .left) 0 e))
 
 -- where at most n entries are left

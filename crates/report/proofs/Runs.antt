@@ -17,10 +17,10 @@ use Rattle.session.specs.declared.Prepared.{Prepared}
 use Rattle.records.specs.declared.Session.{Session}
 use Rattle.steps.specs.Steps.{State, Step, octetStep}
 use Rattle.steps.specs.Takes.{Took, unlessStopped, stopOf, takes}
-use Rattle.session.specs.Calls.{Outcome, prepared, refused, unlessRefused, outcome, fixedOf, stateOf, arrived, endStep, endOutcome, ended}
+use Rattle.session.specs.Calls.{Outcome, prepared, refused, unlessRefused, outcome, fixedOf, stateOf, arrived, endStep, endOutcome, endCalled}
 use Rattle.records.specs.Sound.{refusalOf}
 use Rattle.fields.specs.Report.{Done, outRoom, doneBy, setUp, runEntry}
-use Rattle.report.specs.declared.Ran.{Ran}
+use Rattle.report.specs.declared.EntryRan.{EntryRan}
 use Rattle.report.specs.Ran.{ranBy, ranOf}
 
 -- ---- by its kind
@@ -32,7 +32,7 @@ module _ (s : Session) where
   arrives (suc zero) body h = refl
   arrives (suc (suc k)) body h = absurd (omega arith)
 
-  pub ends : (k : ℕ) (body : List ℕ) → 2 ≤ k → k < 4 → runEntry s k body ≡ doneBy (ended s (k - 2) outRoom outRoom)
+  pub ends : (k : ℕ) (body : List ℕ) → 2 ≤ k → k < 4 → runEntry s k body ≡ doneBy (endCalled s (k - 2) outRoom outRoom)
   unfolding runEntry
   ends zero body h l = absurd (omega arith)
   ends (suc zero) body h l = absurd (omega arith)
@@ -85,8 +85,8 @@ unfolding endOutcome outcome refused
 told-end s d t true = record { taken = omega arith; server = refl; client = refl }
 told-end s d t false = record { taken = omega arith; server = refl; client = refl }
 
-pub told-ended : (s : Session) (d m n : ℕ) → Told (ended s d m n) 0
-unfolding ended
+pub told-ended : (s : Session) (d m n : ℕ) → Told (endCalled s d m n) 0
+unfolding endCalled
 told-ended s d m n =
     let t = endStep (sideOf d) (stateOf s) in
     let b = fits (t .toServer) (t .toClient) m n in
@@ -95,7 +95,7 @@ told-ended s d m n =
 -- ---- what the code keeps
 
 -- what an entry's run promises: the result r, and the buffers then
-abbrev pub Kept : Done → Ran → List ℕ → List ℕ → Type 0
+abbrev pub Kept : Done → EntryRan → List ℕ → List ℕ → Type 0
 Kept d r out other =
     (r ≡ ranBy d) × ((take (r .written .server) out ≡ d .toServer) × (take (r .written .client) other ≡ d .toClient))
 
@@ -103,7 +103,7 @@ same-ran : (o : Outcome) (n : ℕ) → Told o n → ranOf (o .called) ≡ ranBy 
 unfolding ranOf ranBy
 same-ran o n t = rw (← t .server, ← t .client)
 
-pub kept-call : (d : Done) (o : Outcome) (n : ℕ) (out other : List ℕ) {c : Called} {r : Ran} {out′ other′ : List ℕ} → Told o n → d ≡ doneBy o → c ≡ o .called → r ≡ ranOf c
+pub kept-call : (d : Done) (o : Outcome) (n : ℕ) (out other : List ℕ) {c : Called} {r : EntryRan} {out′ other′ : List ℕ} → Told o n → d ≡ doneBy o → c ≡ o .called → r ≡ ranOf c
     → out′ ≡ o .toServer ++ drop (c .written .server) out → other′ ≡ o .toClient ++ drop (c .written .client) other → Kept d r out′ other′
 unfolding ranOf
 kept-call d o n out other t e p q w v =
@@ -115,7 +115,7 @@ kept-call d o n out other t e p q w v =
       ),
     )
 
-pub kept-setup : (d : Done) (body : List ℕ) {r : Ran} (out other : List ℕ) → d ≡ setUp body → r ≡ ranBy (setUp body) → Kept d r out other
+pub kept-setup : (d : Done) (body : List ℕ) {r : EntryRan} (out other : List ℕ) → d ≡ setUp body → r ≡ ranBy (setUp body) → Kept d r out other
 unfolding setUp ranBy
 kept-setup d body out other e q = rw (e, q) (refl, (refl, refl))
 
@@ -129,10 +129,10 @@ unfolding ranBy
 sizes d = (refl, refl)
 
 -- what was written lies within the buffers
-pub written-within : (d : Done) {r : Ran} (out other : List ℕ) → Kept d r out other → (r .written .server ≤ length out) × (r .written .client ≤ length other)
+pub written-within : (d : Done) {r : EntryRan} (out other : List ℕ) → Kept d r out other → (r .written .server ≤ length out) × (r .written .client ≤ length other)
 written-within d {r} out other k =
-    let server : r .written .server ≡ length (d .toServer) = ap (λ (x : Ran). x .written .server) (k .0) ∙ sizes d .0 in
-    let client : r .written .client ≡ length (d .toClient) = ap (λ (x : Ran). x .written .client) (k .0) ∙ sizes d .1 in (
+    let server : r .written .server ≡ length (d .toServer) = ap (λ (x : EntryRan). x .written .server) (k .0) ∙ sizes d .0 in
+    let client : r .written .client ≡ length (d .toClient) = ap (λ (x : EntryRan). x .written .client) (k .0) ∙ sizes d .1 in (
       omega (arith, ap length (k .1 .0), take-short (r .written .server) out),
       omega (arith, ap length (k .1 .1), take-short (r .written .client) other),
     )
@@ -140,6 +140,6 @@ written-within d {r} out other k =
 -- a setup by what its body gives
 pub setup-ran : (body : List ℕ) {address mapped : List ℕ} {p : Prepared} {n : ℕ} → address ≡ take 16 body → mapped ≡ take 4 (drop 16 body)
     → p ≡ prepared address mapped (getD body 20 0) → n ≡ answerNumber (p .answer)
-    → _≡_ {A = Ran} (record { taken = 0; answer = n; written = record { server = 0; client = 0 }; session = p .session }) (ranBy (setUp body))
+    → _≡_ {A = EntryRan} (record { taken = 0; answer = n; written = record { server = 0; client = 0 }; session = p .session }) (ranBy (setUp body))
 unfolding ranBy setUp
 setup-ran body a m e n = rw (n, e, a, m)

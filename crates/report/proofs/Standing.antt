@@ -11,15 +11,15 @@ use lib.ListN.{length, take, drop}
 use lib.Seq.{drop-drop}
 use borrow.Author.Tests.{eq-eqb, ne-eqb, eqb-true, eqb-false, lt-ltb, le-leb, lt-leb, leb-true, leb-false}
 use Rattle.rules.specs.Octets.{oct, choose}
-use Rattle.output.specs.Buffer.{placed}
-use Rattle.output.proofs.Placing.{take-placed}
+use Rattle.output.specs.Buffer.{putAt}
+use Rattle.output.proofs.Placing.{take-put-at}
 use Rattle.records.specs.declared.Session.{Session}
 use Rattle.files.specs.declared.Verdict.{Verdict}
 use Rattle.files.specs.Contents.{Entry, entryOf, entries, count, tableEnd, tableOf, bodiesLength, verdict}
 use Rattle.fields.specs.Report.{Done, entryLine, entryLines}
 use Rattle.files.proofs.Tables.{entries-next}
 use Rattle.files.proofs.Accepted.{Accepted, accepted}
-use Rattle.report.specs.declared.Progress.{Progress}
+use Rattle.report.specs.declared.PartState.{PartState}
 use Rattle.report.specs.declared.Replay.{Replay}
 use Rattle.report.specs.declared.Part.{Part}
 use Rattle.report.specs.Replays.{partOf, noReplay, firstReplayBy, firstReplay, firstText, firstPart, entryAt, isAccepted, isDue, doneAt, entryText, nextText, leftAfter, nextReplay, nextPart}
@@ -36,41 +36,41 @@ pub record Wrote (p : Part) (text : List ℕ) (room : ℕ) (then : Replay) : Typ
   pub replay : p .replay ≡ then
 
 abbrev whole : List ℕ → Replay → Part
-whole text then = record { progress = Progress.Written; written = length text; replay = then }
+whole text then = record { progress = PartState.Written; written = length text; replay = then }
 
 abbrev nothing : Replay → Part
-nothing was = record { progress = Progress.NoRoom; written = 0; replay = was }
+nothing was = record { progress = PartState.NoRoom; written = 0; replay = was }
 
-by-room : (text : List ℕ) (room : ℕ) (was then : Replay) (b : Bool) → leb (length text) room ≡ b → choose b (whole text then) (nothing was) .progress ≡ Progress.Written
+by-room : (text : List ℕ) (room : ℕ) (was then : Replay) (b : Bool) → leb (length text) room ≡ b → choose b (whole text then) (nothing was) .progress ≡ PartState.Written
     → Wrote (choose b (whole text then) (nothing was)) text room then
 unfolding choose
 by-room text room was then true t e = record { fits = leb-true (length text) room t; written = refl; replay = refl }
 by-room text room was then false t e = absurd (let z : _≡_ {A = ℕ} 0 1 = cc in omega arith)
 
-part-wrote : (text : List ℕ) (room : ℕ) (was then : Replay) → partOf text room was then .progress ≡ Progress.Written → Wrote (partOf text room was then) text room then
+part-wrote : (text : List ℕ) (room : ℕ) (was then : Replay) → partOf text room was then .progress ≡ PartState.Written → Wrote (partOf text room was then) text room then
 unfolding partOf
 part-wrote text room was then h = by-room text room was then (leb (length text) room) refl h
 
-pub first-wrote : (file : List ℕ) (room : ℕ) → firstPart file room .progress ≡ Progress.Written → Wrote (firstPart file room) (firstText file) room (firstReplay file)
+pub first-wrote : (file : List ℕ) (room : ℕ) → firstPart file room .progress ≡ PartState.Written → Wrote (firstPart file room) (firstText file) room (firstReplay file)
 unfolding firstPart
 first-wrote file room h = part-wrote (firstText file) room noReplay (firstReplay file) h
 
 module _ (file : List ℕ) (r : Replay) (room : ℕ) where
-  by-due : (b : Bool) → isDue file r ≡ b → nextPart file r room .progress ≡ Progress.Written → isDue file r ≡ true
+  by-due : (b : Bool) → isDue file r ≡ b → nextPart file r room .progress ≡ PartState.Written → isDue file r ≡ true
   unfolding nextPart choose
   by-due true t e = t
-  by-due false t e = let o : Progress.Over ≡ Progress.Written = rw t at e in absurd (let z : _≡_ {A = ℕ} 0 1 = cc in omega arith)
+  by-due false t e = let o : PartState.Over ≡ PartState.Written = rw t at e in absurd (let z : _≡_ {A = ℕ} 0 1 = cc in omega arith)
 
-  pub next-wrote : nextPart file r room .progress ≡ Progress.Written → (isDue file r ≡ true) × Wrote (nextPart file r room) (nextText file r) room (nextReplay file r)
+  pub next-wrote : nextPart file r room .progress ≡ PartState.Written → (isDue file r ≡ true) × Wrote (nextPart file r room) (nextText file r) room (nextReplay file r)
   next-wrote h =
       let d = by-due (isDue file r) refl h in
       (d, rw (due-part file r d room) (part-wrote (nextText file r) room r (nextReplay file r) (rw (due-part file r d room) at h)))
 
 -- what lies at the front of the buffer is the text
-pub front-text : (out text : List ℕ) {n : ℕ} → length text ≤ length out → n ≡ length text → take n (placed out 0 text) ≡ text
+pub front-text : (out text : List ℕ) {n : ℕ} → length text ≤ length out → n ≡ length text → take n (putAt out 0 text) ≡ text
 front-text out text h e =
     let all : 0 + length text ≡ length text = omega arith in
-    rw (e, ← all) (take-placed out 0 text (omega arith))
+    rw (e, ← all) (take-put-at out 0 text (omega arith))
 
 -- ---- where an entry is left
 

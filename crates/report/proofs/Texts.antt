@@ -9,11 +9,11 @@ use lib.Dec.{eqb, leb}
 use lib.ListN.{length, length-append}
 use borrow.Author.Tests.{eq-eqb, ne-eqb}
 use Rattle.rules.specs.Octets.{oct, choose}
-use Rattle.output.specs.Buffer.{fitsAt, placeAfter}
+use Rattle.output.specs.Buffer.{fitsAt, positionAfter}
 use Rattle.fields.specs.Report.{Done, entryLine}
 use Rattle.fields.specs.Parts.{doneOf}
 use Rattle.fields.proofs.Fields.{line-of-parts, line-length}
-use Rattle.report.specs.declared.Progress.{Progress}
+use Rattle.report.specs.declared.PartState.{PartState}
 use Rattle.report.specs.declared.Replay.{Replay}
 use Rattle.report.specs.declared.Part.{Part}
 use Rattle.report.specs.Replays.{partOf, entryText, leftAfter}
@@ -22,18 +22,18 @@ use Rattle.report.specs.Replays.{partOf, entryText, leftAfter}
 
 abbrev pub partBy : ℕ → Replay → Replay → Part
 partBy n was then =
-    choose (eqb n 0) (record { progress = Progress.NoRoom; written = 0; replay = was }) (record { progress = Progress.Written; written = n; replay = then })
+    choose (eqb n 0) (record { progress = PartState.NoRoom; written = 0; replay = was }) (record { progress = PartState.Written; written = n; replay = then })
 
 by-room : (n : ℕ) (was then : Replay) → 1 ≤ n → (b : Bool)
-    → partBy (choose b n 0) was then ≡ choose b (record { progress = Progress.Written; written = n; replay = then }) (record { progress = Progress.NoRoom; written = 0; replay = was })
+    → partBy (choose b n 0) was then ≡ choose b (record { progress = PartState.Written; written = n; replay = then }) (record { progress = PartState.NoRoom; written = 0; replay = was })
 unfolding choose
 by-room n was then some true = rw (ne-eqb n 0 (λ (z : n ≡ 0). omega arith))
 by-room n was then some false = refl
 
 -- as many octets are written as the text has, or none, which no text has
-pub part-put : (text out : List ℕ) (was then : Replay) {n : ℕ} → 1 ≤ length text → n ≡ placeAfter out 0 text
+pub part-put : (text out : List ℕ) (was then : Replay) {n : ℕ} → 1 ≤ length text → n ≡ positionAfter out 0 text
     → partBy n was then ≡ partOf text (length out) was then
-unfolding partOf placeAfter fitsAt
+unfolding partOf positionAfter fitsAt
 part-put text out was then some p = rw (p, zero-add (length text)) (by-room (length text) was then some (leb (length text) (length out)))
 
 -- ---- the text of an entry

@@ -7,15 +7,15 @@ use native.Mathlib.Omega.{arith}
 use lib.Dec.{eqb}
 use lib.ListN.{length, take, drop}
 use Rattle.rules.specs.Octets.{choose}
-use Rattle.output.specs.Buffer.{placed}
+use Rattle.output.specs.Buffer.{putAt}
 use Rattle.files.specs.declared.Verdict.{Verdict}
 use Rattle.files.specs.Contents.{count, tableEnd, tableOf, verdict, verdictNumber}
 use Rattle.fields.specs.Report.{acceptedReport, refusedLine, reportBy, report}
 use Rattle.files.proofs.Accepted.{accepted}
-use Rattle.report.specs.declared.Progress.{Progress}
+use Rattle.report.specs.declared.PartState.{PartState}
 use Rattle.report.specs.declared.Replay.{Replay}
 use Rattle.report.specs.Replays.{noReplay, firstTextBy, firstText, firstReplayBy, firstReplay, firstPart, doneAt, nextText, leftAfter, nextReplay, nextPart}
-use Rattle.report.specs.Whole.{Parts, none, more, WholeReport, FewParts}
+use Rattle.report.specs.Whole.{Parts, noParts, more, WholeReport, FewParts}
 use Rattle.report.proofs.Due.{due}
 use Rattle.report.proofs.Standing.{Wrote, first-wrote, next-wrote, front-text, Stands, after-stands, part-stands, part-replay, restText, rest-none, rest-next}
 
@@ -23,7 +23,7 @@ use Rattle.report.proofs.Standing.{Wrote, first-wrote, next-wrote, fron
 
 entries-joined : {file : List ℕ} {r : Replay} {ps : List (List ℕ)} → Stands file r → Parts file r ps → flatten ps ≡ restText file r
 unfolding flatten
-entries-joined {file} {r} s (none h) = sym (rest-none file r h)
+entries-joined {file} {r} s (noParts h) = sym (rest-none file r h)
 entries-joined {file} {r} s (more {ps = ps} out h rest) =
     let w = next-wrote file r (length out) h in
     let some = due file r (w .0) .some in
@@ -64,7 +64,7 @@ after-less answer left h = by-test left (eqb answer 0) h
 
 parts-left : {file : List ℕ} {r : Replay} {ps : List (List ℕ)} → Parts file r ps → length ps ≤ r .left
 unfolding nextReplay
-parts-left (none h) = omega arith
+parts-left (noParts h) = omega arith
 parts-left {file} {r} (more {ps = ps} out h rest) =
     let w = next-wrote file r (length out) h in
     let less = parts-left rest in

@@ -3,10 +3,10 @@ use lib.ListN.{length}
 use Rattle.rules.specs.Answers.{answerNumber}
 use Rattle.session.specs.declared.Called.{Called}
 use Rattle.fields.specs.Report.{Done}
-use Rattle.report.specs.declared.Ran.{Ran}
+use Rattle.report.specs.declared.EntryRan.{EntryRan}
 
 -- how much was written stands for what was written, which lies in the buffers
-unfoldable pub ranBy : Done → Ran
+unfoldable pub ranBy : Done → EntryRan
 ranBy d =
     record {
       taken = d .taken;
@@ -15,5 +15,5 @@ ranBy d =
       session = d .session;
     }
 
-unfoldable pub ranOf : Called → Ran
+unfoldable pub ranOf : Called → EntryRan
 ranOf c = record { taken = c .taken; answer = answerNumber (c .answer); written = c .written; session = c .session }

@@ -9,7 +9,7 @@ use Rattle.session.specs.Calls.{deadSession}
 use Rattle.files.specs.declared.Verdict.{Verdict}
 use Rattle.files.specs.Contents.{Entry, entryOf, count, tableEnd, verdict, verdictNumber}
 use Rattle.fields.specs.Report.{Done, runEntry, entryLine, headerLine, refusedLine}
-use Rattle.report.specs.declared.Progress.{Progress}
+use Rattle.report.specs.declared.PartState.{PartState}
 use Rattle.report.specs.declared.Replay.{Replay}
 use Rattle.report.specs.declared.Part.{Part}
 
@@ -18,8 +18,8 @@ use Rattle.report.specs.declared.Part.{Part}
 -- a text that has room is written and the replay goes on; one that has none is not, and the replay stays as it was
 unfoldable pub partOf : List ℕ → ℕ → Replay → Replay → Part
 partOf text room was then =
-    choose (leb (length text) room) (record { progress = Progress.Written; written = length text; replay = then })
-    (record { progress = Progress.NoRoom; written = 0; replay = was })
+    choose (leb (length text) room) (record { progress = PartState.Written; written = length text; replay = then })
+    (record { progress = PartState.NoRoom; written = 0; replay = was })
 
 -- ---- the first part
 
@@ -93,4 +93,4 @@ nextReplay file r =
 unfoldable pub nextPart : List ℕ → Replay → ℕ → Part
 nextPart file r room =
     choose (isDue file r) (partOf (nextText file r) room r (nextReplay file r))
-    (record { progress = Progress.Over; written = 0; replay = r })
+    (record { progress = PartState.Over; written = 0; replay = r })

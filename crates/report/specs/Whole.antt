@@ -3,9 +3,9 @@ use mathlib.Core.Path.{_≡_}
 use mathlib.Core.List.{List, [], _∷_, _++_, flatten}
 use Prim.Native.Nat.{ℕ, _≤_}
 use lib.ListN.{length, take}
-use Rattle.output.specs.Buffer.{placed}
+use Rattle.output.specs.Buffer.{putAt}
 use Rattle.fields.specs.Report.{report}
-use Rattle.report.specs.declared.Progress.{Progress}
+use Rattle.report.specs.declared.PartState.{PartState}
 use Rattle.report.specs.declared.Replay.{Replay}
 use Rattle.report.specs.Replays.{firstText, firstPart, nextText, nextPart}
 
@@ -13,17 +13,17 @@ use Rattle.report.specs.Replays.{firstText, firstPart, nextText, nextPar
 
 -- what the calls of `next` left at the front of their buffers, each called with the state that the last returned, until no entry is left
 pub data Parts (file : List ℕ) : Replay → List (List ℕ) → Type 0 where
-  none : {r : Replay} → r .left ≡ 0 → Parts file r []
-  more : {r : Replay} {ps : List (List ℕ)} (out : List ℕ) → nextPart file r (length out) .progress ≡ Progress.Written
+  noParts : {r : Replay} → r .left ≡ 0 → Parts file r []
+  more : {r : Replay} {ps : List (List ℕ)} (out : List ℕ) → nextPart file r (length out) .progress ≡ PartState.Written
       → Parts file (nextPart file r (length out) .replay) ps
-      → Parts file r (take (nextPart file r (length out) .written) (placed out 0 (nextText file r)) ∷ ps)
+      → Parts file r (take (nextPart file r (length out) .written) (putAt out 0 (nextText file r)) ∷ ps)
 
 -- `start`'s part and then those, joined, are the report, for every file and whatever buffers had the room
 abbrev pub WholeReport : Type 0
 WholeReport =
-    (file out : List ℕ) (ps : List (List ℕ)) → firstPart file (length out) .progress ≡ Progress.Written
+    (file out : List ℕ) (ps : List (List ℕ)) → firstPart file (length out) .progress ≡ PartState.Written
     → Parts file (firstPart file (length out) .replay) ps
-    → take (firstPart file (length out) .written) (placed out 0 (firstText file)) ++ flatten ps ≡ report file
+    → take (firstPart file (length out) .written) (putAt out 0 (firstText file)) ++ flatten ps ≡ report file
 
 -- ---- the room
 
@@ -38,7 +38,7 @@ PartMost = (file : List ℕ) → (length (firstText file) ≤ mostPart) × ((r :
 abbrev pub RoomEnough : Type 0
 RoomEnough =
     (file : List ℕ) (room : ℕ) → mostPart ≤ room
-    → (firstPart file room .progress ≡ Progress.Written) × ((r : Replay) → nextPart file r room .progress ≡ Progress.NoRoom → ⊥)
+    → (firstPart file room .progress ≡ PartState.Written) × ((r : Replay) → nextPart file r room .progress ≡ PartState.NoRoom → ⊥)
 
 -- ---- how it goes on
 
@@ -48,10 +48,10 @@ pub data Reached (file : List ℕ) : Replay → Type 0 where
   called : {r : Replay} (room : ℕ) → Reached file r → Reached file (nextPart file r room .replay)
 
 -- while an entry is left, a call with that much room writes its part
-abbrev pub GoesOn : Type 0
-GoesOn =
+abbrev pub NextWritten : Type 0
+NextWritten =
     (file : List ℕ) (r : Replay) (room : ℕ) → Reached file r → 1 ≤ r .left → mostPart ≤ room
-    → nextPart file r room .progress ≡ Progress.Written
+    → nextPart file r room .progress ≡ PartState.Written
 
 -- `start`'s part is followed by at most 48
 abbrev pub FewParts : Type 0

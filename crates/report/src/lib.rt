@@ -21,7 +21,7 @@ ghost use Prim.Native.Nat.{_≤_};
 ghost use lib.Dec.{eqb};
 ghost use lib.ListN.{length, take};
 ghost use Rattle.rules.specs.Octets.{choose};
-ghost use Rattle.output.specs.Buffer.{placed, placeAfter};
+ghost use Rattle.output.specs.Buffer.{putAt, positionAfter};
 ghost use Rattle.session.specs.Calls.{deadSession};
 ghost use Rattle.fields.specs.Report.{outRoom, setUp, runEntry};
 ghost use Rattle.fields.specs.Parts.{doneOf};
@@ -37,7 +37,7 @@ pub struct Replay {
 }
 
 // A part is written whole, has no room, or there is none: no entry of the file is left where the replay stands.
-pub enum Progress {
+pub enum PartState {
     Written,
     NoRoom,
     Over,
@@ -45,13 +45,13 @@ pub enum Progress {
 
 // What became of a part, how many octets were written, and where the replay stands then.
 pub struct Part {
-    pub progress: Progress,
+    pub progress: PartState,
     pub written: usize,
     pub replay: Replay,
 }
 
 // What an entry did: octets taken, the answer's number, how much it wrote into each buffer, and the record then.
-struct Ran {
+struct EntryRan {
     taken: u16,
     answer: u8,
     written: Written,
@@ -61,7 +61,7 @@ struct Ran {
 // The report's first line: the header, or the refusal, after which no entry is left.
 pub fn start(file: &[u8], out: &mut [u8]) -> Part
     ensures { λ r. ⌜ r ≡ firstPart (now (file .entry)) (length (now (out .entry))) ⌝ }
-    ensures { λ r. ⌜ now (out .exit) ≡ placed (now (out .entry)) 0 (firstText (now (file .entry))) ⌝ }
+    ensures { λ r. ⌜ now (out .exit) ≡ putAt (now (out .entry)) 0 (firstText (now (file .entry))) ⌝ }
 {
     let verdict = judge(file);
     match verdict {
@@ -83,11 +83,11 @@ pub fn start(file: &[u8], out: &mut [u8]) -> Part
 // The line of the next entry, and STOPPED where no more follow it.
 pub fn next(file: &[u8], replay: Replay, out: &mut [u8]) -> Part
     ensures { λ r. ⌜ r ≡ nextPart (now (file .entry)) replay (length (now (out .entry))) ⌝ }
-    ensures { λ r. ⌜ now (out .exit) ≡ placed (now (out .entry)) 0 (nextText (now (file .entry)) replay) ⌝ }
+    ensures { λ r. ⌜ now (out .exit) ≡ putAt (now (out .entry)) 0 (nextText (now (file .entry)) replay) ⌝ }
 {
     if !is_due(file, replay) {
         return Part {
-            progress: Progress::Over,
+            progress: PartState::Over,
             written: 0,
             replay,
         };
@@ -128,17 +128,17 @@ pub fn next(file: &[u8], replay: Replay, out: &mut [u8]) -> Part
 
 // A part of which so many octets were written: no text is empty, so none means that it had no room.
 fn part_of(written: usize, before: Replay, after: Replay) -> Part
-    ensures { λ r. ⌜ r ≡ choose (eqb written 0) (record { progress = Progress.NoRoom; written = 0; replay = before }) (record { progress = Progress.Written; written = written; replay = after }) ⌝ }
+    ensures { λ r. ⌜ r ≡ choose (eqb written 0) (record { progress = PartState.NoRoom; written = 0; replay = before }) (record { progress = PartState.Written; written = written; replay = after }) ⌝ }
 {
     if written == 0 {
         return Part {
-            progress: Progress::NoRoom,
+            progress: PartState::NoRoom,
             written: 0,
             replay: before,
         };
     }
     Part {
-        progress: Progress::Written,
+        progress: PartState::Written,
         written,
         replay: after,
     }
@@ -220,7 +220,7 @@ fn run_entry(
     body: &[u8],
     to_server: &mut [u8],
     to_client: &mut [u8],
-) -> Ran
+) -> EntryRan
     requires { ⌜ length (now body) ≤ 1024 ⌝ }
     requires { ⌜ (4 ≤ kind → length (now body) ≡ 21) ⌝ }
     requires { ⌜ length (now «to_server») ≡ outRoom ⌝ }
@@ -238,14 +238,14 @@ fn run_entry(
     ran_of(arrive(session, kind, body, to_server, to_client))
 }
 
-fn ran_of(called: Called) -> Ran
+fn ran_of(called: Called) -> EntryRan
     requires { ⌜ called .taken ≤ 1024 ⌝ }
     ensures { λ r. ⌜ r ≡ ranOf called ⌝ }
 {
     let answer = called.answer;
     let written = called.written;
     let session = called.session;
-    Ran {
+    EntryRan {
         taken: called.taken as u16,
         answer: number_of(answer),
         written,
@@ -254,7 +254,7 @@ fn ran_of(called: Called) -> Ran
 }
 
 // The client's address (16 octets), its mapped address (4 octets) and a flag octet.
-fn set_up(body: &[u8]) -> Ran
+fn set_up(body: &[u8]) -> EntryRan
     requires { ⌜ length (now body) ≡ 21 ⌝ }
     ensures { λ r. ⌜ r ≡ ranBy (setUp (now (body .entry))) ⌝ }
 {
@@ -265,7 +265,7 @@ fn set_up(body: &[u8]) -> Ran
         server: 0,
         client: 0,
     };
-    Ran {
+    EntryRan {
         taken: 0,
         answer: number_of(answer),
         written: none,
@@ -273,7 +273,7 @@ fn set_up(body: &[u8]) -> Ran
     }
 }
 
-// An entry's line, with STOPPED after an answer other than 0: all of it from the front on, or nothing; the next place.
+// An entry's line, with STOPPED after an answer other than 0: all of it from the front on, or nothing; the next position.
 fn put_entry(
     out: &mut [u8],
     number: u16,
@@ -282,8 +282,8 @@ fn put_entry(
     to_server: &[u8],
     to_client: &[u8],
 ) -> usize
-    ensures { λ r. ⌜ r ≡ placeAfter (now (out .entry)) 0 (entryText number (doneOf taken answer (now («to_server» .entry)) (now («to_client» .entry)))) ⌝ }
-    ensures { λ r. ⌜ now (out .exit) ≡ placed (now (out .entry)) 0 (entryText number (doneOf taken answer (now («to_server» .entry)) (now («to_client» .entry)))) ⌝ }
+    ensures { λ r. ⌜ r ≡ positionAfter (now (out .entry)) 0 (entryText number (doneOf taken answer (now («to_server» .entry)) (now («to_client» .entry)))) ⌝ }
+    ensures { λ r. ⌜ now (out .exit) ≡ putAt (now (out .entry)) 0 (entryText number (doneOf taken answer (now («to_server» .entry)) (now («to_client» .entry)))) ⌝ }
 {
     if answer == 0 {
         return put_entry_line(out, 0, number, taken, answer, to_server, to_client);

@@ -2,13 +2,13 @@
 use mathlib.Core.Path.{sym, _∙_}
 use Rattle.rules.specs.Demand3.{Gateway, Demand3, SameHistory, SameClient}
 
-pub same-client : (g : Gateway) → Demand3 g → SameClient g
-same-client g demand su l m a b text ended =
+pub any-same-client : (g : Gateway) → Demand3 g → SameClient g
+any-same-client g demand su l m a b text ended =
     demand su (a .first) (a .last) l (a .fresh) (a .calls) .toServer
     ∙ rw (text, ended) (sym (demand su (b .first) (b .last) m (b .fresh) (b .calls) .toServer))
 
-pub same-history : (g : Gateway) → Demand3 g → SameHistory g
-same-history g demand su l m a b same =
+pub any-same-history : (g : Gateway) → Demand3 g → SameHistory g
+any-same-history g demand su l m a b same =
     let p = demand su (a .first) (a .last) l (a .fresh) (a .calls) in
     let q = demand su (b .first) (b .last) m (b .fresh) (b .calls) in
     (p .toServer ∙ rw same (sym (q .toServer)), p .toClient ∙ rw same (sym (q .toClient)))

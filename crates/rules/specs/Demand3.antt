@@ -84,7 +84,7 @@ module _ (g : Gateway) where
 
   -- "Each gets the record the last one returned": calls made from a first record to a last one
   pub data Calls : g .Session → List Made → g .Session → Type 0 where
-    none : {r : g .Session} → Calls r [] r
+    noCalls : {r : g .Session} → Calls r [] r
     next : {r z : g .Session} {c : Call} {t : Return (g .Session)} {l : List Made} → g .Promise r c t → Calls (t .session) l z → Calls r ((c, t) ∷ l) z
 
   -- "The history is the octets that arrivals say they took, each with its side, and the ends that answered 0, in order"

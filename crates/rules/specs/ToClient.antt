@@ -65,8 +65,8 @@ pub record ServerStep : Type 0 where
   pub state : ServerState
   pub gives : List ℕ
 
-abbrev pub serverStep : Place → List Kind → Bool → List ℕ → ServerStep
-serverStep p owed unfinished gives = record { state = record { place = p; owed = owed; unfinished = unfinished }; gives = gives }
+abbrev pub serverStepTo : Place → List Kind → Bool → List ℕ → ServerStep
+serverStepTo p owed unfinished gives = record { state = record { place = p; owed = owed; unfinished = unfinished }; gives = gives }
 
 -- "no earlier line belongs to its reply": else the line passes
 unfoldable pub finalLineGives : LineRules → List Kind → Bool → List ℕ → List ℕ
@@ -82,7 +82,7 @@ wholeLineGives rules owed unfinished l Final = finalLineGives rules owed unfinis
 unfoldable pub serverLine : LineRules → List Kind → Bool → List ℕ → ServerStep
 serverLine rules owed unfinished l =
     let r = replyLine (content l) in
-    serverStep (inLine []) (owedAfter r owed) (leavesUnfinished r)
+    serverStepTo (inLine []) (owedAfter r owed) (leavesUnfinished r)
     (choose (isWhole l) (wholeLineGives rules owed unfinished l r) (lf ∷ []))
 
 -- "up to 511 without LF give nothing, a 512th not LF gives all, later ones themselves": l ends with the octet x
@@ -90,14 +90,14 @@ unfoldable pub lineOctetGives : List ℕ → ℕ → List ℕ
 lineOctetGives l x = choose (isWhole l) [] (choose (eqb (length l) judged) l (x ∷ []))
 
 unfoldable pub lineOctet : List Kind → Bool → List ℕ → ℕ → ServerStep
-lineOctet owed unfinished l x = serverStep (inLine l) owed unfinished (lineOctetGives l x)
+lineOctet owed unfinished l x = serverStepTo (inLine l) owed unfinished (lineOctetGives l x)
 
 -- "A server octet gives itself once its side passes at once"
 unfoldable pub serverOctet : LineRules → Place → List Kind → Bool → ℕ → ServerStep
 serverOctet rules (inLine l) owed unfinished x =
     choose (eqb x lf) (serverLine rules owed unfinished l) (lineOctet owed unfinished (l ++ (x ∷ [])) x)
-serverOctet rules passing owed unfinished x = serverStep passing owed unfinished (x ∷ [])
-serverOctet rules ended owed unfinished x = serverStep ended owed unfinished []
+serverOctet rules passing owed unfinished x = serverStepTo passing owed unfinished (x ∷ [])
+serverOctet rules ended owed unfinished x = serverStepTo ended owed unfinished []
 
 -- ---- "After each octet follow the own answers and the AUTH step"
 
@@ -116,8 +116,8 @@ flowsOrEnded ended = true
 -- "the gateway's own answers at the head of the queue are written in order, unless .."
 unfoldable pub ownAnswers : Place → List Kind → Bool → List ℕ → ServerStep
 ownAnswers p owed unfinished gives =
-    choose (unfinished || flowsOrEnded p) (serverStep p owed unfinished gives)
-    (serverStep p (withoutAnswers owed) unfinished (gives ++ headAnswers owed))
+    choose (unfinished || flowsOrEnded p) (serverStepTo p owed unfinished gives)
+    (serverStepTo p (withoutAnswers owed) unfinished (gives ++ headAnswers owed))
 
 abbrev pub passesFromNow : Place → Place
 passesFromNow (inLine l) = passing
@@ -129,7 +129,7 @@ unfoldable pub authStep : ServerStep → ServerStep
 authStep t =
     let s = t .state in
     choose (authAtHead (s .owed))
-    (serverStep (passesFromNow (s .place)) (s .owed) (s .unfinished) (t .gives ++ held (s .place)))
+    (serverStepTo (passesFromNow (s .place)) (s .owed) (s .unfinished) (t .gives ++ held (s .place)))
     t
 
 -- after an octet that gave what `t` says and put `new` on the queue

@@ -16,7 +16,7 @@ de-morgan true false = refl
 de-morgan false b = refl
 
 module _ (p : ℕ → Bool) (s : List ℕ) where
-  -- A loop that looks for the place r where a run ends, and stands at i: it goes over the block from i to e.
+  -- A loop that looks for the position r where a run ends, and stands at i: it goes over the block from i to e.
   pub block-step : (i e r : ℕ) → i ≤ e → e ≤ length s → every p (take (e - i) (drop i s)) ≡ true
       → r ≡ i + run p (drop i s)
       → r ≡ e + run p (drop e s)

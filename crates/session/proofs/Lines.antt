@@ -9,19 +9,19 @@ use lib.Seq.{length-take-le, take-all, take-at, drop-at, drop-drop}
 use Rattle.rules.specs.Lines.{mostHeld}
 use Rattle.rules.specs.Answers.{mostOwed}
 use Rattle.records.specs.Layout.{ipv6Width, ipv4Width, lentMapped, lentKinds, lentCommand, lentReply, lentSize}
-use Rattle.output.specs.Buffer.{placed}
-use Rattle.output.proofs.Placing.{placed-after}
+use Rattle.output.specs.Buffer.{putAt}
+use Rattle.output.proofs.Placing.{put-after}
 use Rattle.output.proofs.Front.{filled}
 use Rattle.records.specs.declared.Control.{Control}
 use Rattle.steps.specs.Takes.{stateFrom, fixedLent, stateLent}
 
 -- one array is put behind those that are there
 laid-next : (n : ℕ) (before a : List ℕ) (at : ℕ) → length before ≡ at → at + length a ≤ n → {x y : List ℕ}
-    → x ≡ placed (replicate n 0) 0 before → y ≡ placed x at a → y ≡ placed (replicate n 0) 0 (before ++ a)
+    → x ≡ putAt (replicate n 0) 0 before → y ≡ putAt x at a → y ≡ putAt (replicate n 0) 0 (before ++ a)
 laid-next n before a at size fits p q =
     let place : at ≡ 0 + length before = omega arith in
-    q ∙ ((λ i. placed (p i) (place i) a)
-    ∙ placed-after (replicate n 0) 0 before a (omega (arith, length-append before a, length-replicate {A = ℕ} n 0)))
+    q ∙ ((λ i. putAt (p i) (place i) a)
+    ∙ put-after (replicate n 0) 0 before a (omega (arith, length-append before a, length-replicate {A = ℕ} n 0)))
 
 module _ (client mapped kinds command reply : List ℕ) (h₁ : length client ≡ ipv6Width) (h₂ : length mapped ≡ ipv4Width) (h₃ : length kinds ≡ mostOwed)
     (h₄ : length command ≡ mostHeld) (h₅ : length reply ≡ mostHeld) where
@@ -31,8 +31,8 @@ module _ (client mapped kinds command reply : List ℕ) (h₁ : length client �
   abbrev arrays : List ℕ
   arrays = client ++ (mapped ++ (kinds ++ lines))
 
-  pub all-laid : {a b c d e : List ℕ} → a ≡ placed (replicate lentSize 0) 0 client → b ≡ placed a lentMapped mapped → c ≡ placed b lentKinds kinds
-      → d ≡ placed c lentCommand command → e ≡ placed d lentReply reply → e ≡ arrays
+  pub all-laid : {a b c d e : List ℕ} → a ≡ putAt (replicate lentSize 0) 0 client → b ≡ putAt a lentMapped mapped → c ≡ putAt b lentKinds kinds
+      → d ≡ putAt c lentCommand command → e ≡ putAt d lentReply reply → e ≡ arrays
   all-laid p q r s t =
       let two = client ++ mapped in
       let three = two ++ kinds in
@@ -77,8 +77,8 @@ module _ (client mapped kinds command reply : List ℕ) (h₁ : length client �
         λ i. stateFrom c (first i) (second i) (third i)
 
 -- the state of the arrays that `take` left, each an array of its own again
-pub arrays-back : (c : Control) (lent : List ℕ) → length lent ≡ lentSize → {k a b : List ℕ} → k ≡ placed (replicate mostOwed 0) 0 (take mostOwed (drop lentKinds lent))
-    → a ≡ placed (replicate mostHeld 0) 0 (take mostHeld (drop lentCommand lent)) → b ≡ placed (replicate mostHeld 0) 0 (take mostHeld (drop lentReply lent))
+pub arrays-back : (c : Control) (lent : List ℕ) → length lent ≡ lentSize → {k a b : List ℕ} → k ≡ putAt (replicate mostOwed 0) 0 (take mostOwed (drop lentKinds lent))
+    → a ≡ putAt (replicate mostHeld 0) 0 (take mostHeld (drop lentCommand lent)) → b ≡ putAt (replicate mostHeld 0) 0 (take mostHeld (drop lentReply lent))
     → stateFrom c a b k ≡ stateLent c lent
 arrays-back c lent size o p q =
     let kinds = o ∙ filled mostOwed (take mostOwed (drop lentKinds lent)) (length-take-le mostOwed (drop lentKinds lent) (omega (arith, length-drop lentKinds lent))) in

@@ -17,11 +17,11 @@ use Rattle.steps.specs.declared.Written.{Written}
 use Rattle.records.specs.declared.Refusal.{Refusal}
 use Rattle.steps.specs.Steps.{State, Step}
 use Rattle.steps.specs.Takes.{Took, takes, Core, coreFrom, coreTook}
-use Rattle.session.specs.Calls.{Outcome, counted, takenFor, fixedOf, stateOf, sessionAfter, refused, unlessRefused, outcome, arrived, endStep, endOutcome, ended}
+use Rattle.session.specs.Calls.{Outcome, counted, takenFor, fixedOf, stateOf, sessionAfter, refused, unlessRefused, outcome, arrived, endStep, endOutcome, endCalled}
 use Rattle.records.specs.Sound.{refusalOf, refusalBy, sideIf}
 use Rattle.records.proofs.Sides.{not-zero}
 use Rattle.records.proofs.Refusals.{by-answer}
-use Rattle.output.proofs.Front.{front-placed}
+use Rattle.output.proofs.Front.{front-put}
 use Rattle.steps.proofs.Fits.{takes-fit}
 
 -- a call's result r, and its buffers before and after
@@ -96,8 +96,8 @@ module _ (s : Session) (d : ℕ) (octets out other : List ℕ) (side : Side) (sa
       let size : w ≡ record { server = length (taking .toServer); client = length (taking .toClient) } = ap (λ (x : Core). x .written) k in (
         rw (unrefused, e, p, q, st, size),
         (
-          ap (λ (x : Core). x .serverBuffer) k ∙ rw (unrefused, size) (front-placed out (taking .toServer) (fit .server)),
-          ap (λ (x : Core). x .clientBuffer) k ∙ rw (unrefused, size) (front-placed other (taking .toClient) (fit .client)),
+          ap (λ (x : Core). x .serverBuffer) k ∙ rw (unrefused, size) (front-put out (taking .toServer) (fit .server)),
+          ap (λ (x : Core). x .clientBuffer) k ∙ rw (unrefused, size) (front-put other (taking .toClient) (fit .client)),
         ),
       )
 
@@ -126,13 +126,13 @@ untouched s d t false buffer e = (λ p. rw e, λ p. rw e)
 -- which octets an end passes on, and when they have room
 module _ (s : Session) (d : ℕ) (out other : List ℕ) (free : refusalOf s d ≡ none) where
   pub client-ends : d ≡ 0 → s .control .client .held ≤ length (s .command)
-      → ended s d (length out) (length other) ≡ endOutcome s client (endStep client (stateOf s)) (leb (s .control .client .held) (length out))
-  unfolding ended unlessRefused endStep fits
+      → endCalled s d (length out) (length other) ≡ endOutcome s client (endStep client (stateOf s)) (leb (s .control .client .held) (length out))
+  unfolding endCalled unlessRefused endStep fits
   client-ends z h =
       rw (free, z, length-take-le (s .control .client .held) (s .command) h, leb·zero (length other), and-true (leb (s .control .client .held) (length out)))
 
   pub server-ends : (d ≡ 0 → ⊥) → s .control .server .held ≤ length (s .reply)
-      → ended s d (length out) (length other) ≡ endOutcome s server (endStep server (stateOf s)) (leb (s .control .server .held) (length other))
-  unfolding ended unlessRefused endStep fits
+      → endCalled s d (length out) (length other) ≡ endOutcome s server (endStep server (stateOf s)) (leb (s .control .server .held) (length other))
+  unfolding endCalled unlessRefused endStep fits
   server-ends z h =
       rw (free, not-zero d z, length-take-le (s .control .server .held) (s .reply) h, leb·zero (length out))

@@ -191,8 +191,8 @@ endOutcome s d t true =
 endOutcome s d t false = refused Answer.NoRoom s
 
 -- an end: refused, or its held octets pass if they have room
-unfoldable pub ended : Session → ℕ → ℕ → ℕ → Outcome
-ended s d serverRoom clientRoom =
+unfoldable pub endCalled : Session → ℕ → ℕ → ℕ → Outcome
+endCalled s d serverRoom clientRoom =
     let t = endStep (sideOf d) (stateOf s) in
     unlessRefused (refusalOf s d) s
     (endOutcome s (sideOf d) t (fits (t .toServer) (t .toClient) serverRoom clientRoom))
@@ -207,5 +207,5 @@ offset s (suc (suc d)) = DirectionOffset.UnknownDirection
 
 -- this page's definitions, for a proof that computes with them
 unfoldable pub calls-opened : Unit {0}
-unfolding sound-opened takes-opened freshSession deadSession prepared sessionAfter refused unlessRefused outcome arrived endStep endOutcome ended offset
+unfolding sound-opened takes-opened freshSession deadSession prepared sessionAfter refused unlessRefused outcome arrived endStep endOutcome endCalled offset
 calls-opened = tt

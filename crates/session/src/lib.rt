@@ -7,8 +7,8 @@ ghost use Prim.Native.Nat.{_≤_};
 ghost use Rattle.rules.specs.Answers.{wrapped, client as clientSide, server as serverSide, mostOwed};
 ghost use Rattle.rules.specs.Lines.{mostHeld};
 ghost use Rattle.records.specs.Layout.{ipv6Width, ipv4Width};
-ghost use Rattle.session.specs.Calls.{prepared, endedDirection, startSession, startControl, deadSession, stateOf, arrived, endStep, endOutcome, ended, refused as refusedOutcome, counted as countedBy, takenFor, sessionAfter, offset as offsetIn};
-ghost use Rattle.output.specs.Buffer.{placed};
+ghost use Rattle.session.specs.Calls.{prepared, endedDirection, startSession, startControl, deadSession, stateOf, arrived, endStep, endOutcome, endCalled, refused as refusedOutcome, counted as countedBy, takenFor, sessionAfter, offset as offsetIn};
+ghost use Rattle.output.specs.Buffer.{putAt};
 ghost use Rattle.records.specs.Sound.{sideIf};
 ghost use Rattle.steps.specs.Takes.{stateFrom};
 use arrivals::take;
@@ -213,7 +213,7 @@ fn laid(
 
 // A line's octets as an array; zeros where there are more than an array has, and behind fewer.
 pub fn held_line(octets: &[u8]) -> Line
-    ensures { λ r. ⌜ r ≡ placed (replicate mostHeld 0) 0 (now (octets .entry)) ⌝ }
+    ensures { λ r. ⌜ r ≡ putAt (replicate mostHeld 0) 0 (now (octets .entry)) ⌝ }
 {
     let mut line = [0u8; HELD];
     put(&mut line, 0, octets);
@@ -313,9 +313,9 @@ fn low_half(n: usize) -> u32
 
 // A direction ends: its held octets pass.
 pub fn end(session: Session, direction: u8, to_server: &mut [u8], to_client: &mut [u8]) -> Called
-    ensures { λ r. ⌜ r ≡ ended session direction (length (now («to_server» .entry))) (length (now («to_client» .entry))) .called ⌝ }
-    ensures { λ r. ⌜ now («to_server» .exit) ≡ ended session direction (length (now («to_server» .entry))) (length (now («to_client» .entry))) .toServer ++ drop (r .written .server) (now («to_server» .entry)) ⌝ }
-    ensures { λ r. ⌜ now («to_client» .exit) ≡ ended session direction (length (now («to_server» .entry))) (length (now («to_client» .entry))) .toClient ++ drop (r .written .client) (now («to_client» .entry)) ⌝ }
+    ensures { λ r. ⌜ r ≡ endCalled session direction (length (now («to_server» .entry))) (length (now («to_client» .entry))) .called ⌝ }
+    ensures { λ r. ⌜ now («to_server» .exit) ≡ endCalled session direction (length (now («to_server» .entry))) (length (now («to_client» .entry))) .toServer ++ drop (r .written .server) (now («to_server» .entry)) ⌝ }
+    ensures { λ r. ⌜ now («to_client» .exit) ≡ endCalled session direction (length (now («to_server» .entry))) (length (now («to_client» .entry))) .toClient ++ drop (r .written .client) (now («to_client» .entry)) ⌝ }
 {
     if let Refusal::By(answer) = refusal_of(session, direction) {
         return refused(answer, session);

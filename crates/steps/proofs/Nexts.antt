@@ -12,7 +12,7 @@ use Rattle.rules.specs.Answers.{Side, isQueueFull, stop}
 use Rattle.rules.specs.declared.Answer.{Answer}
 use Rattle.records.specs.Layout.{lentSize}
 use Rattle.octets.proofs.Ranges.{and-both}
-use Rattle.output.proofs.Placing.{nothing-placed}
+use Rattle.output.proofs.Placing.{nothing-put}
 use Rattle.places.specs.Places.{isPassing}
 use Rattle.records.specs.declared.Control.{Control}
 use Rattle.records.specs.Sound.{holdable}
@@ -76,8 +76,8 @@ pub behind-nothing : (k : Core) (a : Answer) → k ≡ coreBehind (tookNothing a
 unfolding coreBehind
 behind-nothing k a =
     let w = k .written in
-    let server = nothing-placed (k .serverBuffer) (w .server) .1 in
-    let client = nothing-placed (k .clientBuffer) (w .client) .1 in
+    let server = nothing-put (k .serverBuffer) (w .server) .1 in
+    let client = nothing-put (k .clientBuffer) (w .client) .1 in
     let m : w .server ≡ w .server + 0 = omega arith in
     let n : w .client ≡ w .client + 0 = omega arith in
     λ i. record { state = k .state; serverBuffer = server i; clientBuffer = client i; written = record { server = m i; client = n i } }

@@ -12,7 +12,7 @@ use Rattle.rules.specs.declared.Kind.{Kind}
 use Rattle.octets.proofs.Choices.{by-test, choose-true, choose-false}
 use Rattle.places.specs.declared.Place.{Place}
 use Rattle.places.specs.declared.Direction.{Direction}
-use Rattle.places.specs.Places.{at, isFlowing, isPassing, isEnded, flowsOrEnded, passesFromNow}
+use Rattle.places.specs.Places.{at, isFlowing, isPassing, isEnded, isFlowingOrEnded, directionFromNow}
 use Rattle.queue.specs.Kinds.{queueOf, answersAtHead, shifted}
 use Rattle.queue.proofs.Answers.{answers-none}
 use Rattle.queue.proofs.Listed.{shifted-queue}
@@ -20,7 +20,7 @@ use Rattle.queue.specs.declared.Plan.{Plan}
 use Rattle.steps.specs.Core.{Planned}
 use Rattle.records.specs.Sound.{blocked}
 use Rattle.steps.specs.Steps.{State, owedFrom, leaving, answersText, isAuthNext, settledState, settledText}
-use Rattle.steps.specs.Settled.{Through, passes, ended, Settled}
+use Rattle.steps.specs.Settled.{Through, throughPassing, throughEnded, Settled}
 
 -- ---- places by their tests
 
@@ -66,13 +66,13 @@ auth-first (Kind.Auth ∷ ks) e = refl
 
 -- ---- a settled state settles to itself
 
-through-same : (p : Place) (n : ℕ) → Through p n → passesFromNow (at p n) p ≡ at p n
-through-same p n passes = refl
-through-same p n ended = refl
+through-same : (p : Place) (n : ℕ) → Through p n → directionFromNow (at p n) p ≡ at p n
+through-same p n throughPassing = refl
+through-same p n throughEnded = refl
 
 through-none : (p : Place) (n : ℕ) (line : List ℕ) → Through p n → take n line ≡ []
-through-none p n line passes = refl
-through-none p n line ended = refl
+through-none p n line throughPassing = refl
+through-none p n line throughEnded = refl
 
 module _ (s : State) (settled : Settled s) where
   none-leaves : leaving s 0 ≡ 0
@@ -95,8 +95,8 @@ module _ (s : State) (settled : Settled s) where
   unfolding settledState shifted
   settles-same =
       let c = s .control in
-      let server : choose (isAuthNext s 0) (passesFromNow (c .server) (c .server .place)) (c .server) ≡ c .server =
-      by-test (λ (d : Direction). d ≡ c .server) (isAuthNext s 0) (passesFromNow (c .server) (c .server .place))
+      let server : choose (isAuthNext s 0) (directionFromNow (c .server) (c .server .place)) (c .server) ≡ c .server =
+      by-test (λ (d : Direction). d ≡ c .server) (isAuthNext s 0) (directionFromNow (c .server) (c .server .place))
       (c .server)
       (λ e. through-same (c .server .place) (c .server .held) (auth-now e)) (λ _. refl) in
       let owed : c .owed - leaving s 0 ≡ c .owed = omega (arith, none-leaves) in
@@ -122,11 +122,11 @@ module _ (s : State) (settled : Settled s) where
 -- ---- what settles is settled then
 
 passes-through : (p : Place) (n : ℕ) → (p ≡ Place.Ended → n ≡ 0)
-    → Through (passesFromNow (at p n) p .place) (passesFromNow (at p n) p .held)
-passes-through Place.Holding n h = passes
-passes-through Place.Flowing n h = passes
-passes-through Place.Passing n h = passes
-passes-through Place.Ended n h = subst (λ (m : ℕ). Through Place.Ended m) (sym (h refl)) ended
+    → Through (directionFromNow (at p n) p .place) (directionFromNow (at p n) p .held)
+passes-through Place.Holding n h = throughPassing
+passes-through Place.Flowing n h = throughPassing
+passes-through Place.Passing n h = throughPassing
+passes-through Place.Ended n h = subst (λ (m : ℕ). Through Place.Ended m) (sym (h refl)) throughEnded
 
 -- of a state whose array has the kinds owed, and that holds nothing of a server that has ended
 module _ (s : State) (n : ℕ) (fits : s .control .owed ≤ length (s .kinds))
@@ -150,10 +150,10 @@ module _ (s : State) (n : ℕ) (fits : s .control .owed ≤ length (s .kinds))
   unfolding settledState isAuthNext blocked
   settled-then =
       let sv = s .control .server in
-      let go : Direction = passesFromNow sv (sv .place) in
+      let go : Direction = directionFromNow sv (sv .place) in
       record {
         answers = λ e. rw queue-then
-            (by-test (λ (d : Direction). (s .control .unfinished || flowsOrEnded (d .place)) ≡ false
+            (by-test (λ (d : Direction). (s .control .unfinished || isFlowingOrEnded (d .place)) ≡ false
             → answersAtHead left ≡ 0)
             (isAuthNext s n) go sv (λ a _. auth-first left a) (λ _ e. answers-left e) e);
         auth = λ e.
@@ -194,7 +194,7 @@ module _ (d : Direction) (none : d .held ≡ 0) where
   through-at p e t = subst (λ (n : ℕ). Through (d .place) n) (sym none) (subst (λ (q : Place). Through q 0) (sym e) t)
 
   pub through-passing : isPassing (d .place) ≡ true → Through (d .place) (d .held)
-  through-passing e = through-at Place.Passing (place-passing (d .place) e) passes
+  through-passing e = through-at Place.Passing (place-passing (d .place) e) throughPassing
 
   pub through-ended : isEnded (d .place) ≡ true → Through (d .place) (d .held)
-  through-ended e = through-at Place.Ended (place-ended (d .place) e) ended
+  through-ended e = through-at Place.Ended (place-ended (d .place) e) throughEnded

@@ -10,8 +10,8 @@ use Rattle.steps.specs.Steps.{State}
 
 -- the server's octets pass at once, or it has ended, and none is held
 pub data Through : Place → ℕ → Type 0 where
-  passes : Through Place.Passing 0
-  ended : Through Place.Ended 0
+  throughPassing : Through Place.Passing 0
+  throughEnded : Through Place.Ended 0
 
 -- no own answer waits at the head of the queue unless something blocks it, and AUTH is first only where the server is through
 pub record Settled (s : State) : Type 0 where

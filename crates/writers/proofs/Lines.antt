@@ -1,4 +1,4 @@
--- The lines that the gateway writes, as the parts that are placed one after another.
+-- The lines that the gateway writes, as the parts that are put one after another.
 use mathlib.Core.Path.{_≡_, ap, _∙_}
 use mathlib.Core.List.{List, [], _∷_, _++_, append-assoc}
 use Prim.Native.Nat.{ℕ, _/_, _%_, _<_, _≤_}

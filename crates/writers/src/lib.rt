@@ -10,7 +10,7 @@ ghost use lib.ListN.{length};
 ghost use Rattle.rules.specs.Octets.{decimal};
 ghost use Rattle.rules.specs.Commands.{commas, pasvLine, portLine};
 ghost use Rattle.rules.specs.Replies.{extendedPassiveLine};
-ghost use Rattle.output.specs.Buffer.{placed, placeAfter, PlacedInRoom};
+ghost use Rattle.output.specs.Buffer.{putAt, positionAfter, PutInRoom};
 
 pub fn pasv_length() -> usize
     ensures { λ r. ⌜ r ≡ length pasvLine ⌝ }
@@ -19,15 +19,15 @@ pub fn pasv_length() -> usize
 }
 
 pub fn put_pasv(out: &mut [u8], at: usize) -> usize
-    ensures { λ r. ⌜ r ≡ placeAfter (now (out .entry)) at pasvLine ⌝ }
-    ensures { λ r. ⌜ now (out .exit) ≡ placed (now (out .entry)) at pasvLine ⌝ }
+    ensures { λ r. ⌜ r ≡ positionAfter (now (out .entry)) at pasvLine ⌝ }
+    ensures { λ r. ⌜ now (out .exit) ≡ putAt (now (out .entry)) at pasvLine ⌝ }
 {
     put(out, at, b"PASV\r\n")
 }
 
 // A number and the octets after it, where both have room.
 fn put_number(out: &mut [u8], at: usize, n: u16, after: &[u8]) -> usize
-    ensures { λ r. ⌜ PlacedInRoom (now (out .entry)) at (decimal n ++ now (after .entry)) r (now (out .exit)) ⌝ }
+    ensures { λ r. ⌜ PutInRoom (now (out .entry)) at (decimal n ++ now (after .entry)) r (now (out .exit)) ⌝ }
 {
     let next = put_decimal(out, at, n);
     put(out, next, after)
@@ -41,8 +41,8 @@ pub fn extended_passive_length(port: u16) -> usize
 }
 
 pub fn put_extended_passive(out: &mut [u8], at: usize, port: u16) -> usize
-    ensures { λ r. ⌜ r ≡ placeAfter (now (out .entry)) at (extendedPassiveLine port) ⌝ }
-    ensures { λ r. ⌜ now (out .exit) ≡ placed (now (out .entry)) at (extendedPassiveLine port) ⌝ }
+    ensures { λ r. ⌜ r ≡ positionAfter (now (out .entry)) at (extendedPassiveLine port) ⌝ }
+    ensures { λ r. ⌜ now (out .exit) ≡ putAt (now (out .entry)) at (extendedPassiveLine port) ⌝ }
 {
     if !has_room(out.len(), at, extended_passive_length(port)) {
         return at;
@@ -64,8 +64,8 @@ pub fn port_line_length(mapped: [u8; 4], port: u16) -> usize
 }
 
 pub fn put_port_line(out: &mut [u8], at: usize, mapped: [u8; 4], port: u16) -> usize
-    ensures { λ r. ⌜ r ≡ placeAfter (now (out .entry)) at (portLine mapped port) ⌝ }
-    ensures { λ r. ⌜ now (out .exit) ≡ placed (now (out .entry)) at (portLine mapped port) ⌝ }
+    ensures { λ r. ⌜ r ≡ positionAfter (now (out .entry)) at (portLine mapped port) ⌝ }
+    ensures { λ r. ⌜ now (out .exit) ≡ putAt (now (out .entry)) at (portLine mapped port) ⌝ }
 {
     if !has_room(out.len(), at, port_line_length(mapped, port)) {
         return at;
@@ -87,7 +87,7 @@ fn pair_length(a: u8, b: u8) -> usize
 
 // Two numbers with a comma between and the octets after them, where all have room.
 fn put_pair(out: &mut [u8], at: usize, a: u8, b: u8, after: &[u8]) -> usize
-    ensures { λ r. ⌜ PlacedInRoom (now (out .entry)) at (commas (a ∷ b ∷ []) ++ now (after .entry)) r (now (out .exit)) ⌝ }
+    ensures { λ r. ⌜ PutInRoom (now (out .entry)) at (commas (a ∷ b ∷ []) ++ now (after .entry)) r (now (out .exit)) ⌝ }
 {
     let next = put_number(out, at, a as u16, b",");
     put_number(out, next, b as u16, after)

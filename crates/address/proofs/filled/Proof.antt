@@ -46,14 +46,14 @@ returns-3 c =
     (filled-long (s .args .before) (s .args .after) (not-false _ (c .before .before .before .before .if1 .left)) (not-false _ (c .before .before .if2 .left))
     (kept (s .args .before) hs (s .pre .0)) (kept (s .args .after) ls (s .pre .1)) (c .before .if3 .taken)))
 
-placed-requires : tie.Need-placed-requires
-placed-requires c κs = search needs
+pasted-requires : tie.Need-pasted-requires
+pasted-requires c κs = search needs
 
-sub-placed : tie.Need-sub-placed
-sub-placed c = search needs
+sub-pasted : tie.Need-sub-pasted
+sub-pasted c = search needs
 
-placed-requires-2 : tie.Need-placed-requires-2
-placed-requires-2 c κs = search needs
+pasted-requires-2 : tie.Need-pasted-requires-2
+pasted-requires-2 c κs = search needs
 
 returns-4 : tie.Need-returns-4
 unfolding ipv6Read
@@ -61,7 +61,7 @@ returns-4 c =
     let s = c .before .before .before .before .before .before .before .before .before in
     let hs : length (s .args .before .octets) ≡ 16 = search needs in
     let ls : length (s .args .after .octets) ≡ 16 = search needs in
-    ap (λ o. ipv6Read (some o)) (c .placed2 .ensures ∙ rw (c .before .placed .ensures))
+    ap (λ o. ipv6Read (some o)) (c .pasted2 .ensures ∙ rw (c .before .pasted .ensures))
     ∙ ap ipv6Read
     (sym
     (filled-read (s .args .before) (s .args .after) (not-false _ (c .before .before .before .before .before .before .before .if1 .left)) (not-false _ (c .before .before .before .before .before .if2 .left))
@@ -78,7 +78,7 @@ filled-spec =
     add-if3
     no-address-requires-3
     returns-3
-    placed-requires
-    sub-placed
-    placed-requires-2
+    pasted-requires
+    sub-pasted
+    pasted-requires-2
     returns-4)

@@ -6,7 +6,7 @@ use borrow.Author.Needs.{needs}
 use lib.ListN.{length, drop}
 use Rattle.rules.specs.Octets.{choose, run, isNot, colon, parts}
 use Rattle.rules.specs.Address.{both, groups}
-use Rattle.address.specs.Text.{octetsOf, fits}
+use Rattle.address.specs.Text.{octetsOf, withinSixteen}
 use Rattle.octets.proofs.Joining.{both-start}
 use Rattle.address.proofs.Texts.{groups-on, groups-end}
 use Rattle.address.proofs.groups.Statement.{statement}
@@ -15,7 +15,7 @@ use Rattle.address.proofs.groups.Tie as tie
 abbrev Inv-loop : tie.InvT-loop
 Inv-loop text ends read₀ i₀ e₀ read i e =
     (i ≤ length text) × (e ≡ i + run (isNot colon) (drop i text)) × (read .count ≤ 16)
-    × (fits (groups ends (parts colon text)) ≡ fits (both (octetsOf read) (groups ends (parts colon (drop i text)))))
+    × (withinSixteen (groups ends (parts colon text)) ≡ withinSixteen (both (octetsOf read) (groups ends (parts colon (drop i text)))))
 
 abbrev μ-loop : tie.MeasureT-loop
 μ-loop text ends read₀ i₀ e₀ read i e = length text - i

@@ -1,7 +1,7 @@
 -- `address::half`. No loop: an empty side reads as nothing, any other as its groups.
 use mathlib.Core.Path.{_∙_, ap}
 use borrow.Author.Needs.{needs}
-use Rattle.address.specs.Text.{fits}
+use Rattle.address.specs.Text.{withinSixteen}
 use Rattle.address.proofs.Texts.{half-empty, half-groups}
 use Rattle.address.proofs.half.Statement.{statement}
 use Rattle.address.proofs.half.Tie as tie
@@ -16,7 +16,7 @@ groups-requires : tie.Need-groups-requires
 groups-requires c κs = search needs
 
 returns-2 : tie.Need-returns-2
-returns-2 c = record { gives = c .groups .ensures .gives ∙ ap fits (half-groups _ _ (c .before .if1 .left)); room = c .groups .ensures .room }
+returns-2 c = record { gives = c .groups .ensures .gives ∙ ap withinSixteen (half-groups _ _ (c .before .if1 .left)); room = c .groups .ensures .room }
 
 pub half-spec : {M : Type 1} → statement M
 half-spec = tie.close (tie.spec nothing-yet-requires returns groups-requires returns-2)

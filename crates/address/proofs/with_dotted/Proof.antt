@@ -6,7 +6,7 @@ use borrow.Author.Needs.{needs}
 use lib.ListN.{length, drop}
 use Rattle.rules.specs.Octets.{run, isNot, dot, parts}
 use Rattle.rules.specs.Address.{both, dotted}
-use Rattle.address.specs.Text.{octetsOf, fits}
+use Rattle.address.specs.Text.{octetsOf, withinSixteen}
 use Rattle.address.proofs.Texts.{dotted-on, dotted-end}
 use Rattle.address.proofs.with_dotted.Statement.{statement}
 use Rattle.address.proofs.with_dotted.Tie as tie
@@ -14,7 +14,7 @@ use Rattle.address.proofs.with_dotted.Tie as tie
 abbrev Inv-loop : tie.InvT-loop
 Inv-loop text read₀ i₀ e₀ read i e =
     (i ≤ length text) × (e ≡ i + run (isNot dot) (drop i text)) × (read .count ≤ 16)
-    × (fits (both (octetsOf read₀) (dotted (parts dot text))) ≡ fits (both (octetsOf read) (dotted (parts dot (drop i text)))))
+    × (withinSixteen (both (octetsOf read₀) (dotted (parts dot text))) ≡ withinSixteen (both (octetsOf read) (dotted (parts dot (drop i text)))))
 
 abbrev μ-loop : tie.MeasureT-loop
 μ-loop text read₀ i₀ e₀ read i e = length text - i

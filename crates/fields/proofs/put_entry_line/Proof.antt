@@ -1,9 +1,9 @@
--- `fields::put_entry_line` meets its contract: three numbers and two fields placed one after another, where all have room.
+-- `fields::put_entry_line` meets its contract: three numbers and two fields put one after another, where all have room.
 use mathlib.Core.Path.{refl, subst}
 use mathlib.Core.List.{List, _++_}
 use Prim.Native.Nat.{ℕ}
 use Rattle.rules.specs.Octets.{oct, decimal}
-use Rattle.output.specs.Buffer.{PlacedInRoom}
+use Rattle.output.specs.Buffer.{PutInRoom}
 use Rattle.output.proofs.Placing.{joined, refused, room}
 use Rattle.fields.specs.Report.{field, entryLine}
 use Rattle.fields.specs.Parts.{doneOf}
@@ -66,7 +66,7 @@ returns-2 c =
     let fields = (field (a .to-server .now) ++ oct " ") ++ client in
     let answer = (decimal (a .number) ++ oct " ") ++ fields in
     let tail = (decimal (a .taken) ++ oct " ") ++ answer in
-    subst (λ (l : List ℕ). PlacedInRoom (a .out .now) (a .at) l (fifth .put-part2 .result) (fifth .put-part2 .last .0))
+    subst (λ (l : List ℕ). PutInRoom (a .out .now) (a .at) l (fifth .put-part2 .result) (fifth .put-part2 .last .0))
     (line-parts (a .n) (a .taken) (a .number) (a .to-server .now) (a .to-client .now))
     (joined (a .out .now) (a .at) (decimal (a .n) ++ oct " ") tail (first .put-number .ensures)
     (joined (first .put-number .last .0) (first .put-number .result) (decimal (a .taken) ++ oct " ") answer (second .put-number2 .ensures)

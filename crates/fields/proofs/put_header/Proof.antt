@@ -1,4 +1,4 @@
--- `fields::put_header` meets its contract: the count placed after the text, where both have room.
+-- `fields::put_header` meets its contract: the count put after the text, where both have room.
 use mathlib.Core.List.{_++_}
 use native.Mathlib.Omega.{arith}
 use Rattle.rules.specs.Octets.{oct, decimal}

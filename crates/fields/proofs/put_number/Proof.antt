@@ -1,4 +1,4 @@
--- `fields::put_number` meets its contract: the octets placed after the number.
+-- `fields::put_number` meets its contract: the octets put after the number.
 use Rattle.rules.specs.Octets.{decimal}
 use Rattle.output.proofs.Placing.{joined}
 use borrow.Author.Needs.{needs}

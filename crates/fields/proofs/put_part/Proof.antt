@@ -1,4 +1,4 @@
--- `fields::put_part` meets its contract: the octets placed after the field.
+-- `fields::put_part` meets its contract: the octets put after the field.
 use Rattle.output.proofs.Placing.{joined}
 use Rattle.fields.specs.Report.{field}
 use borrow.Author.Needs.{needs}

@@ -1,4 +1,4 @@
--- `fields::put_shown` meets its contract: the octet, or the three that show it, are placed.
+-- `fields::put_shown` meets its contract: the octet, or the three that show it, are put.
 use mathlib.Core.Path.{sym, _∙_}
 use Rattle.output.proofs.Placing.{written}
 use Rattle.fields.proofs.Fields.{as-itself, as-hex}

@@ -1,7 +1,7 @@
--- By the cases of what is given; where that is no octet, nothing is placed.
+-- By the cases of what is given; where that is no octet, nothing is put.
 use borrow.Author.Needs.{needs}
 use Rattle.gives.specs.Text.{givesText}
-use Rattle.output.proofs.Placing.{written, nothing-placed}
+use Rattle.output.proofs.Placing.{written, nothing-put}
 use Rattle.gives.proofs.Texts.{text-of}
 use Rattle.gives.proofs.put_gives.Statement.{statement}
 use Rattle.gives.proofs.put_gives.Tie as tie
@@ -44,11 +44,11 @@ put-extended-passive-requires c κs = search needs
 
 returns : tie.Need-returns
 unfolding givesText
-returns c = written _ _ (text-of _ _ _ (c .enum-told .given .1)) (nothing-placed _ _)
+returns c = written _ _ (text-of _ _ _ (c .enum-told .given .1)) (nothing-put _ _)
 
 returns-2 : tie.Need-returns-2
 unfolding givesText
-returns-2 c = written _ _ (text-of _ _ _ (c .enum-told2 .given .1)) (nothing-placed _ _)
+returns-2 c = written _ _ (text-of _ _ _ (c .enum-told2 .given .1)) (nothing-put _ _)
 
 same-length : tie.Need-same-length
 same-length c = search needs

@@ -1,4 +1,4 @@
--- No room by either test, or the octet placed after the held ones.
+-- No room by either test, or the octet put after the held ones.
 use mathlib.Core.List.{[], _∷_, _++_}
 use native.Mathlib.Omega.{arith}
 use lib.ListN.{length-append}

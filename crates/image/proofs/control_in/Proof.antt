@@ -1,4 +1,4 @@
--- `image::control_in`: each field at its place.
+-- `image::control_in`: each field at its position.
 use Rattle.image.specs.Image.{controlIn}
 use borrow.Author.Needs.{needs}
 use Rattle.image.proofs.control_in.Statement.{statement}

@@ -1,4 +1,4 @@
--- `image::fields`: each field at its place.
+-- `image::fields`: each field at its position.
 use native.Mathlib.Omega.{arith}
 use Rattle.image.proofs.Reading.{copied, fields-read}
 use borrow.Author.Needs.{needs}

@@ -1,5 +1,5 @@
 -- `image::number_at`: the four octets, each below 256.
-use Rattle.image.specs.Image.{numberAt}
+use Rattle.image.specs.Image.{countAt}
 use borrow.Author.Needs.{needs}
 use Rattle.image.proofs.number_at.Statement.{statement}
 use Rattle.image.proofs.number_at.Tie as tie
@@ -56,7 +56,7 @@ add-result-3 : tie.Need-add-result-3
 add-result-3 c = search needs
 
 returns : tie.Need-returns
-unfolding numberAt
+unfolding countAt
 returns c = cc
 
 pub number-at-spec : {M : Type 1} → statement M

@@ -2,7 +2,7 @@
 use mathlib.Core.Path.{_≡_}
 use mathlib.Core.List.{[], _∷_}
 use Rattle.output.proofs.Placing.{written}
-use Rattle.image.specs.Image.{bit, marksIn}
+use Rattle.image.specs.Image.{markOf, marksIn}
 use Rattle.image.proofs.Writing.{andThen}
 use borrow.Author.Needs.{needs}
 use Rattle.image.proofs.put_marks.Statement.{statement}
@@ -13,8 +13,8 @@ returns c =
     let put = c .before .before .before .before .before .before .put in
     let b = c .before .before .before .before .before .before .before .before .before in
     let a = b .before .before .before .args in
-    let fixed : b .before .bit .result ∷ b .bit2 .result ∷ [] ≡ bit (a .live) ∷ bit (a .supported) ∷ [] = cc in
-    andThen (a .out .now) (a .at) (bit (a .live) ∷ bit (a .supported) ∷ []) (marksIn (a .control)) (written (a .out .now) (a .at) fixed (put .ensures))
+    let fixed : b .before .bit .result ∷ b .bit2 .result ∷ [] ≡ markOf (a .live) ∷ markOf (a .supported) ∷ [] = cc in
+    andThen (a .out .now) (a .at) (markOf (a .live) ∷ markOf (a .supported) ∷ []) (marksIn (a .control)) (written (a .out .now) (a .at) fixed (put .ensures))
     (c .before .before .put-control .ensures)
 
 pub put-marks-spec : {M : Type 1} → statement M

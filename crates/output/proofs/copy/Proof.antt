@@ -5,7 +5,7 @@ use native.Mathlib.Numerals.{add-one}
 use native.Mathlib.Omega.{arith}
 use lib.ListN.{length, length-set}
 use lib.Seq.{paste, paste-zero, paste-suc, take-length}
-use Rattle.output.proofs.Placing.{placed-split}
+use Rattle.output.proofs.Placing.{put-split}
 use Rattle.output.proofs.copy.Statement.{statement}
 use Rattle.output.proofs.copy.Tie as tie
 
@@ -52,7 +52,7 @@ returns c =
     let a = c .before .before .args in
     let l = c .before .loop in
     let all : l .i ≡ length (a .src .now) = omega arith in
-    l .inv .0 ∙ rw (all, take-length (a .src .now), placed-split (a .out .now) (a .at) (a .src .now) (omega arith))
+    l .inv .0 ∙ rw (all, take-length (a .src .now), put-split (a .out .now) (a .at) (a .src .now) (omega arith))
 
 pub copy-spec : {M : Type 1} → statement M
 copy-spec =

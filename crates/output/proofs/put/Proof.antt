@@ -1,18 +1,18 @@
--- `output::put` meets its contract. The invariant: the octets of `src` that are done are placed from `at` on.
+-- `output::put` meets its contract. The invariant: the octets of `src` that are done are put from `at` on.
 use mathlib.Core.Path.{_≡_, refl, sym, ap, _∙_}
 use Prim.Native.Nat.{_+_, _≤_, _-_}
 use native.Mathlib.Omega.{arith}
 use borrow.Author.Needs.{needs}
 use lib.ListN.{length, take, drop, getD, length-drop}
 use lib.Seq.{take-length, length-take-le}
-use Rattle.output.specs.Buffer.{placed}
-use Rattle.output.proofs.Placing.{refused, room, nothing-placed, placed-next, after-fits, one-placed, only-octet}
+use Rattle.output.specs.Buffer.{putAt}
+use Rattle.output.proofs.Placing.{refused, room, nothing-put, put-next, after-fits, one-put, only-octet}
 use Rattle.output.proofs.put.Statement.{statement}
 use Rattle.output.proofs.put.Tie as tie
 
 abbrev Inv-loop : tie.InvT-loop
 Inv-loop out₀ at src done₀ out done =
-    (out ≡ placed out₀ at (take done src)) × (done ≤ length src) × (length out ≡ length out₀) × (at + length src ≤ length out₀)
+    (out ≡ putAt out₀ at (take done src)) × (done ≤ length src) × (length out ≡ length out₀) × (at + length src ≤ length out₀)
 
 abbrev μ-loop : tie.MeasureT-loop
 μ-loop out₀ at src done₀ out done = length src - done
@@ -50,13 +50,13 @@ returns-2 c =
     let fit = room (a .out .now) (a .at) (a .src .now) (c .before .before .before .has-room .ensures) refl (c .before .before .if1 .left) in
     let one = c .before .if2 .taken in (
       rw (after-fits (a .out .now) (a .at) (a .src .now) fit) (omega arith),
-      one-placed (a .out .now) (a .at) (getD (a .src .now) 0 0) (omega arith) ∙ ap (placed (a .out .now) (a .at)) (sym (only-octet (a .src .now) one)),
+      one-put (a .out .now) (a .at) (getD (a .src .now) 0 0) (omega arith) ∙ ap (putAt (a .out .now) (a .at)) (sym (only-octet (a .src .now) one)),
     )
 
 loop-holds : tie.Need-loop-holds Inv-loop μ-loop
 loop-holds c =
     let a = c .before .before .before .before .before .args in (
-      nothing-placed (a .out .now) (a .at) .1,
+      nothing-put (a .out .now) (a .at) .1,
       omega arith,
       refl,
       room (a .out .now) (a .at) (a .src .now) (c .before .before .has-room .ensures) refl (c .before .if1 .left),
@@ -105,7 +105,7 @@ loop-again c =
     let n = c .before .before .before .before .before .block-length .result in
     let same : l .done + n - l .done ≡ n = omega arith in
     let there : l .done + n ≤ length (a .src .now) = omega arith in (
-      c .before .before .put-block .ensures ∙ rw (l .inv .0, same) (placed-next (a .out .now) (a .at) (a .src .now) (l .done) n there (l .inv .3)),
+      c .before .before .put-block .ensures ∙ rw (l .inv .0, same) (put-next (a .out .now) (a .at) (a .src .now) (l .done) n there (l .inv .3)),
       there,
       omega arith,
       l .inv .3,

@@ -5,12 +5,12 @@ use Prim.Native.Nat.{ℕ, _≤_}
 use native.Mathlib.Omega.{arith}
 use borrow.Author.Needs.{needs}
 use lib.ListN.{length, take, replicate, length-replicate}
-use Rattle.output.specs.Buffer.{placed}
+use Rattle.output.specs.Buffer.{putAt}
 use Rattle.output.proofs.Front.{front-taken}
 use Rattle.output.proofs.put_block.Statement.{statement}
 use Rattle.output.proofs.put_block.Tie as tie
 
-held : (src : List ℕ) {block : List ℕ} → length src ≤ 1024 → block ≡ placed (replicate 1024 0) 0 src → take (length src) block ≡ src
+held : (src : List ℕ) {block : List ℕ} → length src ≤ 1024 → block ≡ putAt (replicate 1024 0) 0 src → take (length src) block ≡ src
 held src fits copied =
     ap (take (length src)) copied ∙ front-taken (replicate 1024 0) src (omega (arith, length-replicate {A = ℕ} 1024 0))
 
@@ -41,7 +41,7 @@ returns c =
     let start = c .before .before .before .before .before .before .before .before .before .before in
     let a = start .args in
     let there = held (a .src .now) (start .pre .0) (c .before .before .before .before .before .before .copy .ensures) in
-    c .before .before .copy2 .ensures ∙ ap (placed (a .out .now) (a .at)) there
+    c .before .before .copy2 .ensures ∙ ap (putAt (a .out .now) (a .at)) there
 
 pub put-block-spec : {M : Type 1} → statement M
 put-block-spec =

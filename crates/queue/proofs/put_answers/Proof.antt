@@ -1,4 +1,4 @@
--- `queue::put_answers` meets its contract. The invariant: the answers from number `i` on remain to be placed.
+-- `queue::put_answers` meets its contract. The invariant: the answers from number `i` on remain to be put.
 use mathlib.Core.Path.{_≡_}
 use Prim.Native.Nat.{_+_, _≤_, _-_}
 use native.Mathlib.Omega.{arith}

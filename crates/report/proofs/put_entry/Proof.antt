@@ -1,4 +1,4 @@
--- `report::put_entry` meets its contract: STOPPED is placed after the line, where both have room.
+-- `report::put_entry` meets its contract: STOPPED is put after the line, where both have room.
 use mathlib.Core.Path.{_≡_, sym, ap, _∙_}
 use Prim.Native.Nat.{_+_}
 use native.Mathlib.Omega.{arith}

@@ -4,7 +4,7 @@ use Prim.Native.Nat.{_-_}
 use native.Mathlib.Omega.{arith}
 use lib.ListN.{length}
 use Rattle.session.specs.declared.Called.{Called}
-use Rattle.session.specs.Calls.{arrived, ended}
+use Rattle.session.specs.Calls.{arrived, endCalled}
 use Rattle.report.proofs.Runs.{arrives, ends, sets-up, told-arrived, told-ended, kept-call, kept-setup}
 use borrow.Author.Needs.{needs}
 use Rattle.report.proofs.run_entry.Statement.{statement}
@@ -38,7 +38,7 @@ returns-2 c =
     let k = c .before .before .before .before .before .end in
     let pre = c .before .before .before .before .before .before .before .before .before .before .before .before .before .pre in
     let a = c .before .before .before .before .before .before .before .before .before .before .before .before .before .args in
-    kept-call _ (ended (a .session) (a .kind - 2) (length (a .to-server .now)) (length (a .to-client .now))) 0 (a .to-server .now) (a .to-client .now)
+    kept-call _ (endCalled (a .session) (a .kind - 2) (length (a .to-server .now)) (length (a .to-client .now))) 0 (a .to-server .now) (a .to-client .now)
     (told-ended (a .session) (a .kind - 2) (length (a .to-server .now)) (length (a .to-client .now)))
     (rw (pre .1 .1 .0, pre .1 .1 .1) (ends (a .session) (a .kind) (a .body .now) (c .before .before .before .before .before .before .before .before .if2 .taken) (c .before .before .before .before .before .before .before .before .before .if1 .left)))
     (k .ensures .0)

@@ -6,7 +6,7 @@ use lib.ListN.{length}
 use borrow.Author.Needs.{needs}
 use Rattle.rules.specs.Answers.{client, server}
 use Rattle.rules.specs.Lines.{mostHeld}
-use Rattle.session.specs.Calls.{stateOf, endStep, ended}
+use Rattle.session.specs.Calls.{stateOf, endStep, endCalled}
 use Rattle.records.proofs.Refusals.{by-nothing, countable}
 use Rattle.session.proofs.Outcomes.{client-ends, server-ends, untouched, turned-away}
 use Rattle.session.proofs.end.Statement.{statement}
@@ -22,7 +22,7 @@ refused-requires : tie.Need-refused-requires
 refused-requires c κs = search needs
 
 returns : tie.Need-returns
-unfolding ended
+unfolding endCalled
 returns c =
     let a = c .before .before .before .before .before .before .before .args in
     turned-away (a .session) _ _ _ (a .to-server .now) (a .to-client .now) (c .before .before .before .before .refusal-of .ensures) (c .before .before .answer .given .1) (c .refused .ensures)

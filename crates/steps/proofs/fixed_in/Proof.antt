@@ -1,4 +1,4 @@
--- Each address at its place.
+-- Each address at its position.
 use mathlib.Core.Path.{sym, _∙_}
 use native.Mathlib.Omega.{arith}
 use lib.ListN.{take, drop, length-drop}

@@ -1,4 +1,4 @@
--- `writers::put_extended_passive` meets its contract: the port placed after the text, where both have room.
+-- `writers::put_extended_passive` meets its contract: the port put after the text, where both have room.
 use mathlib.Core.List.{_++_}
 use borrow.Author.Needs.{needs}
 use Rattle.rules.specs.Octets.{oct, decimal}

@@ -1,4 +1,4 @@
--- `writers::put_number` meets its contract: the octets placed after the number.
+-- `writers::put_number` meets its contract: the octets put after the number.
 use borrow.Author.Needs.{needs}
 use Rattle.rules.specs.Octets.{decimal}
 use Rattle.output.proofs.Placing.{joined}

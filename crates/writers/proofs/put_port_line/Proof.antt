@@ -1,4 +1,4 @@
--- `writers::put_port_line` meets its contract: the text and three pairs of numbers placed one after another, where all have room.
+-- `writers::put_port_line` meets its contract: the text and three pairs of numbers put one after another, where all have room.
 use mathlib.Core.Path.{_≡_, subst, sym}
 use mathlib.Core.List.{List, [], _∷_, _++_}
 use Prim.Native.Nat.{ℕ, _/_, _%_}
@@ -6,7 +6,7 @@ use lib.ListN.{length, getD}
 use borrow.Author.Needs.{needs}
 use Rattle.rules.specs.Octets.{oct}
 use Rattle.rules.specs.Commands.{commas, portLine}
-use Rattle.output.specs.Buffer.{PlacedInRoom}
+use Rattle.output.specs.Buffer.{PutInRoom}
 use Rattle.output.proofs.Placing.{joined, refused, room}
 use Rattle.writers.proofs.Lines.{port-pairs}
 use Rattle.writers.proofs.put_port_line.Statement.{statement}
@@ -82,7 +82,7 @@ returns-2 c =
     let high = commas (a .port / 256 ∷ a .port % 256 ∷ []) ++ oct "\r\n" in
     let tail = (commas (getD (a .t3) 2 0 ∷ getD (a .t3) 3 0 ∷ []) ++ oct ",") ++ high in
     let rest = (commas (getD (a .t3) 0 0 ∷ getD (a .t3) 1 0 ∷ []) ++ oct ",") ++ tail in
-    subst (λ (l : List ℕ). PlacedInRoom (a .out .now) (a .at) l (third .put-pair3 .result) (third .put-pair3 .last .0))
+    subst (λ (l : List ℕ). PutInRoom (a .out .now) (a .at) l (third .put-pair3 .result) (third .put-pair3 .last .0))
     (sym (port-pairs (a .t3) (a .port) long))
     (joined (a .out .now) (a .at) (oct "PORT ") rest (λ _. text .put .ensures)
     (joined (text .put .last .0) (text .put .result) (commas (getD (a .t3) 0 0 ∷ getD (a .t3) 1 0 ∷ []) ++ oct ",") tail (first .put-pair .ensures)

@@ -1,4 +1,4 @@
--- A line after another (`said-then`): the invariant is the contract itself, at the present place.
+-- A line after another (`said-then`): the invariant is the contract itself, at the present position.
 use mathlib.Core.Path.{_≡_, refl}
 use mathlib.Core.Bool.{false}
 use Prim.Native.Nat.{_-_, _≤_}

@@ -14,7 +14,7 @@ use Rattle.session.proofs.Outcomes.{side-tested}
 use Rattle.records.specs.Sound.{refusalOf, sideIf}
 use Rattle.steps.specs.Takes.{tookIn}
 use Rattle.image.specs.Image.{isSet, part}
-use Rattle.image.specs.Lent.{arrivedAt}
+use Rattle.image.specs.Lent.{arrivedOn}
 use Rattle.image.proofs.Arrivals.{Left, lent, lent-size, lent-all, left, free-image, free-size, free-fields, free-counts}
 use Rattle.image.proofs.arrival.take_at.Statement.{statement}
 use Rattle.image.proofs.arrival.take_at.Tie as tie
@@ -91,7 +91,7 @@ same-length-3 : tie.Need-same-length-3
 same-length-3 c = search needs
 
 returns : tie.Need-returns
-unfolding arrivedAt
+unfolding arrivedOn
 returns c =
     let start = c .before .before .before .before .before .before .before .before .before .before .before .before .before .before .before .before .before .before .before .before .before .before .before .before .before .before .before .before .before .before in
     let a = start .args in

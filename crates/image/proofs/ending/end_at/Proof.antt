@@ -6,7 +6,7 @@ use mathlib.Core.Option.{none}
 use Rattle.records.specs.Sound.{refusalOf, refusalBy, Counted}
 use Rattle.records.proofs.Refusals.{unknown, by-nothing}
 use Rattle.image.specs.Image.{controlIn, isImage, sessionOf}
-use Rattle.image.specs.Lent.{endedAt}
+use Rattle.image.specs.Lent.{endedOn}
 use Rattle.image.proofs.Reading.{image-size, refused-no-image, refused-image}
 use Rattle.image.proofs.Arrivals.{end-refused, free-image, free-counts}
 use Rattle.image.proofs.Endings.{client-left, server-left}
@@ -61,7 +61,7 @@ ready c =
     (free-image (a .image .now) (a .direction) (free c), free-counts (a .image .now) (a .direction) (free c) refl)
 
 returns-4 : tie.Need-returns-4
-unfolding endedAt
+unfolding endedOn
 returns-4 c =
     let side = c .before .before .before .before .before .before .before in
     let a = start (side .before .before .before) .args in
@@ -69,7 +69,7 @@ returns-4 c =
     (c .before .before .before .before .end-held .ensures)
 
 returns-5 : tie.Need-returns-5
-unfolding endedAt
+unfolding endedOn
 returns-5 c =
     let side = c .before .before .before .before .before .before .before in
     let a = start (side .before .before .before) .args in

@@ -1,4 +1,4 @@
--- `address::placed`. The invariant: dst with the first i octets of src from `at` on.
+-- `address::pasted`. The invariant: dst with the first i octets of src from `at` on.
 use mathlib.Core.Path.{_≡_, _∙_}
 use Prim.Native.Nat.{_≤_, _-_}
 use native.Mathlib.Numerals.{add-one}
@@ -6,8 +6,8 @@ use native.Mathlib.Omega.{arith}
 use borrow.Author.Needs.{needs}
 use lib.ListN.{length}
 use lib.Seq.{paste, paste-zero, paste-suc}
-use Rattle.address.proofs.placed.Statement.{statement}
-use Rattle.address.proofs.placed.Tie as tie
+use Rattle.address.proofs.pasted.Statement.{statement}
+use Rattle.address.proofs.pasted.Tie as tie
 
 abbrev Inv-loop : tie.InvT-loop
 Inv-loop at n src octets₀ i₀ octets i = (i ≤ n) × (octets ≡ paste octets₀ at src i)
@@ -44,8 +44,8 @@ loop-again c =
 returns : tie.Need-returns Inv-loop μ-loop
 returns c = let all : c .before .loop .i ≡ c .before .before .args .n = omega arith in c .before .loop .inv .1 ∙ rw all
 
-pub placed-spec : {M : Type 1} → statement M
-placed-spec =
+pub pasted-spec : {M : Type 1} → statement M
+pasted-spec =
     tie.close
     (tie.spec
     Inv-loop
