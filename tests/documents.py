@@ -1,7 +1,8 @@
 """The documents say only what is there, and docs/TRACE.md leaves no sentence of document 01's rules out.
 
-- A name such as `Octets.run` must be declared in a module Octets of some crate's specs/ or proofs/, one such as `lines::content` must be a
-  public function of the crate `lines`; a relative link must lead to a file.
+- A name such as `Octets.run` must be declared in one module Octets of some crate's specs/ or proofs/ and in no other of that name, one
+  such as `lines::content` must be a public function of the crate `lines`; a relative link must lead to a file.
+- A public name of a definition means one thing: no two pages of specs/ declare it, as a definition or as a constructor.
 - The first cell of each row of docs/TRACE.md is words of document 01 (`..` stands for words left out; a cell in brackets is ours), and
   together the rows cover the sections traced.
 - Every definition of the crates that a reader has to believe stands in docs/TRACE.md.
@@ -26,20 +27,39 @@ GAP = 4
 MARKS = r"^(?:  )?(?:(?:unfoldable|abbrev) )?"
 DECLARED = re.compile(MARKS + r"pub (?:record |data )?([^\s:]+)", re.M)
 FIELD = re.compile(r"^ +pub (\S+) :", re.M)
-CONSTRUCTORS = re.compile(r"pub data .*?where\n((?:\s+.*\n)+)")
+DEFINED = re.compile(r"^(?:  )?(?:(?:unfoldable|abbrev) pub |pub (?:record|data) )([^\s:]+)", re.M)
+CONSTRUCTORS = re.compile(r"^ *pub data .*where\n((?: +.*\n)+)", re.M)
+
+
+def constructors(text):
+    """The names before the colons of the lines that stand as far in as the first one."""
+    for block in CONSTRUCTORS.findall(text):
+        indent = re.match(" +", block).group()
+        for names in re.findall(rf"^{indent}(\S[^:]*) :", block, re.M):
+            yield from names.split()
 
 
 def modules():
-    """Each hand-written module, with the names that it declares: definitions, fields and constructors."""
+    """Each hand-written module, with the pages of that name, each with what it declares: definitions, fields and constructors."""
     found = {}
     for kind in ("specs", "proofs"):
         for path in sorted(ROOT.glob(f"crates/*/{kind}/**/*.antt")):
             text = path.read_text()
-            names = set(DECLARED.findall(text)) | set(FIELD.findall(text))
-            for block in CONSTRUCTORS.findall(text):
-                names.update(re.findall(r"^\s+(\S+)", block, re.M))
-            found.setdefault(path.stem, set()).update(names)
+            names = set(DECLARED.findall(text)) | set(FIELD.findall(text)) | set(constructors(text))
+            found.setdefault(path.stem, {})[path.relative_to(ROOT)] = names
     return found
+
+
+def shared():
+    """Public names that two pages of definitions declare."""
+    pages = {}
+    for path in sorted(ROOT.glob("crates/*/specs/**/*.antt")):
+        text = path.read_text()
+        for name in {*DEFINED.findall(text), *constructors(text)}:
+            pages.setdefault(name, []).append(str(path.relative_to(ROOT)))
+    for name, where in sorted(pages.items()):
+        if len(where) > 1:
+            yield f"{name} is declared in {' and in '.join(where)}"
 
 
 def definitions():
@@ -129,14 +149,18 @@ def faults():
         if document == SCOPE:
             continue
         for module, name in re.findall(r"`([A-Z]\w+)\.([^`\s.{}]+)`", text):
-            if name not in known.get(module, ()):
+            pages = [page for page, names in known.get(module, {}).items() if name in names]
+            if not pages:
                 yield f"{where}: {module}.{name} is not declared"
+            elif len(pages) > 1:
+                yield f"{where}: {module}.{name} is declared in {' and in '.join(map(str, pages))}"
         for crate, name in re.findall(r"`([a-z]+)::(\w+)`", text):
             if name not in public_functions(crate):
                 yield f"{where}: {crate}::{name} is no public function"
     for title in TRACED:
         yield from untraced(title)
     yield from missing_edits()
+    yield from shared()
     traced = TRACE.read_text()
     for module, name in definitions():
         if f"`{module}.{name}`" not in traced:
