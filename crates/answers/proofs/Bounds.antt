@@ -21,6 +21,7 @@ use Rattle.rules.specs.Answers.{
   stop,
   mostToServer,
   mostToClient,
+  longestAnswer,
 }
 use Rattle.rules.specs.Lines.{judged, content}
 use Rattle.rules.specs.Commands.{command}
@@ -179,12 +180,12 @@ module _ (mapped : List ℕ) (size : length mapped ≡ 4) (octets : every isOcte
 -- ---- own answers and the AUTH step
 
 -- 48 for each kind owed, and the octets held
-settled-most : (s : State) (n : ℕ) → length (settledText s n) ≤ s .control .owed * 48 + s .control .server .held
+settled-most : (s : State) (n : ℕ) → length (settledText s n) ≤ s .control .owed * longestAnswer + s .control .server .held
 unfolding settledText answersText
 settled-most s n =
     let queue : List Kind = queueOf (s .kinds) (s .control .owed) in
     let held : List ℕ = take (s .control .server .held) (s .reply) in
-    let answers : Short (s .control .owed * 48) (choose (blocked (s .control)) [] (headAnswers (owedFrom s n))) =
+    let answers : Short (s .control .owed * longestAnswer) (choose (blocked (s .control)) [] (headAnswers (owedFrom s n))) =
     either (Short _) _ _ _ (record { most = omega arith })
     (record { most = omega (arith, head-answers (owedFrom s n), length-drop n queue, length-queue (s .kinds) (s .control .owed)) }) in
     let rest : Short (s .control .server .held) (choose (isAuthNext s n) held []) =
@@ -267,7 +268,7 @@ module _ (s : Session) (shape : Shaped s) (d x : ℕ) (xs : List ℕ) (rs rc : �
   took = takes (fixedOf s) (sideOf d) (stateOf s) (x ∷ xs) rs rc
 
   -- a call that nothing refuses takes its first octet, unless 1 stops it
-  first-taken : Sound s → isQueueFull (sideOf d) (isPassing (s .control .client .place)) (s .control .owed) ≡ false → 1 ≤ took .taken
+  pub first-taken : Sound s → isQueueFull (sideOf d) (isPassing (s .control .client .place)) (s .control .owed) ≡ false → 1 ≤ took .taken
   first-taken w notFull =
       let t : Step = octetStep (fixedOf s) (sideOf d) (stateOf s) x in
       takes-one (fixedOf s) (sideOf d) (stateOf s) x xs rs rc

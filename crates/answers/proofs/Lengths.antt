@@ -12,6 +12,7 @@ use Rattle.rules.specs.Lines.{judged}
 use Rattle.rules.specs.Commands.{portLine, pasvLine}
 use Rattle.rules.specs.Replies.{extendedPassiveLine, headAnswers}
 use Rattle.rules.specs.declared.Kind.{Kind}
+use Rattle.rules.specs.Answers.{longestAnswer}
 use Rattle.octets.proofs.Ranges.{and-both}
 use Rattle.own.proofs.Lengths.{answer-most}
 use Rattle.writers.proofs.Lines.{port-most, extended-passive-most}
@@ -53,7 +54,7 @@ pub passive-line : (p : ℕ) → p ≤ 65535 → length (extendedPassiveLine p) 
 passive-line p small = omega (arith, judged-most, extended-passive-most p (omega arith))
 
 -- the gateway's own answers
-pub head-answers : (ks : List Kind) → length (headAnswers ks) ≤ 48 * length ks
+pub head-answers : (ks : List Kind) → length (headAnswers ks) ≤ longestAnswer * length ks
 unfolding headAnswers
 head-answers [] = omega arith
 head-answers (Kind.Plain ∷ ks) = omega arith

@@ -27,10 +27,10 @@ pub client-most-is : mostToClient ≡ 1280
 unfolding answers-opened lines-opened
 client-most-is = refl
 
-pub server-reached : Writes longLine mostToServer 0
+pub server-reached : Writes longLine 512 0
 unfolding octets-opened answers-opened setup-opened lines-opened address-opened commands-opened replies-opened kinds-opened gives-opened places-opened sound-opened upstream-opened downstream-opened steps-opened calls-opened longLine
 server-reached = record { answer = refl; taken = refl; toServer = refl; toClient = refl }
 
-pub client-reached : Writes sixteenAnswers 0 mostToClient
+pub client-reached : Writes sixteenAnswers 0 1280
 unfolding octets-opened answers-opened setup-opened lines-opened address-opened commands-opened replies-opened kinds-opened gives-opened places-opened sound-opened upstream-opened downstream-opened steps-opened calls-opened sixteenAnswers
 client-reached = record { answer = refl; taken = refl; toServer = refl; toClient = refl }

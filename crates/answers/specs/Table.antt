@@ -8,6 +8,7 @@ use lib.ListN.{length, take, getD}
 use Rattle.rules.specs.Answers.{Side, client, server, sideOf, answerNumber, mostOwed}
 use Rattle.rules.specs.Lines.{judged}
 use Rattle.rules.specs.Setup.{eprtOn, eprtSupported}
+use Rattle.queue.specs.Kinds.{lastCode}
 use Rattle.places.specs.declared.Place.{Place}
 use Rattle.places.specs.declared.Direction.{Direction}
 use Rattle.steps.specs.declared.Fixed.{Fixed}
@@ -54,11 +55,11 @@ pub record SoundDirection (d : Direction) : Type 0 where
   pub most : d .held ≤ judged - 1
   pub none : d .place ≢ Place.Holding → d .held ≡ 0
 
--- not 4: not "record not live, over 16 owed, an owed kind not listed here", nor octets held as above; kinds have the numbers 0 to 8
+-- not 4: not "record not live, over 16 owed, an owed kind not listed here", nor octets held as above; kinds have the numbers from 0 to the last
 pub record Sound (s : Session) : Type 0 where
   pub live : s .live ≡ true
   pub owed : s .control .owed ≤ mostOwed
-  pub listed : (i : ℕ) → i < s .control .owed → getD (s .kinds) i 0 ≤ 8
+  pub listed : (i : ℕ) → i < s .control .owed → getD (s .kinds) i 0 ≤ lastCode
   pub client : SoundDirection (s .control .client)
   pub server : SoundDirection (s .control .server)
 

@@ -7,6 +7,7 @@ use lib.ListN.{length}
 use Rattle.rules.specs.Replies.{stateLine, answerLine}
 use Rattle.rules.specs.declared.OwnAnswer.{OwnAnswer}
 use Rattle.rules.specs.declared.OwnAnswer.the-variants.{ProtocolNotSupported, ParameterNotImplemented, State}
+use Rattle.rules.specs.Answers.{longestAnswer}
 
 -- only EPSVEPRT is longer
 pub state-short : (eprt : Bool) → length (stateLine false eprt) ≡ 10
@@ -14,7 +15,7 @@ unfolding stateLine
 state-short false = refl
 state-short true = refl
 
-state-most : (epsv eprt : Bool) → length (stateLine epsv eprt) ≤ 48
+state-most : (epsv eprt : Bool) → length (stateLine epsv eprt) ≤ longestAnswer
 unfolding stateLine
 state-most false false = omega arith
 state-most false true = omega arith
@@ -22,7 +23,7 @@ state-most true false = omega arith
 state-most true true = omega arith
 
 -- no answer is longer than 48 octets
-pub answer-most : (a : OwnAnswer) → length (answerLine a) ≤ 48
+pub answer-most : (a : OwnAnswer) → length (answerLine a) ≤ longestAnswer
 unfolding answerLine
 answer-most ProtocolNotSupported = omega arith
 answer-most ParameterNotImplemented = omega arith

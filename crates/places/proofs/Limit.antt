@@ -1,4 +1,4 @@
--- How many octets of a line may be held: the one place where the number of the definition meets the number of the code.
+-- A line with another octet may still be judged whole exactly where fewer octets are held than can be.
 use mathlib.Core.Path.{_≡_, refl, sym, _∙_}
 use mathlib.Core.Bool.{Bool, true, false}
 use Prim.Native.Nat.{ℕ, _+_, _<_, _≤_}

@@ -8,6 +8,7 @@ use lib.Seq.{drop-cons, drop-drop, getD-take}
 use Rattle.rules.specs.Replies.{headAnswers, answerLine}
 use Rattle.rules.specs.declared.Kind.{Kind}
 use Rattle.rules.specs.declared.OwnAnswer.{OwnAnswer}
+use Rattle.rules.specs.Answers.{longestAnswer}
 use Rattle.own.proofs.Lengths.{answer-most}
 use Rattle.queue.specs.Kinds.{kindOf, queueOf, answersAtHead}
 use Rattle.queue.specs.declared.NextAnswer.{NextAnswer}
@@ -71,7 +72,7 @@ pub record OneAnswer (a : OwnAnswer) (ks ms : List Kind) : Type 0 where
   pub count : answersAtHead ks ≡ 1 + answersAtHead ms
   pub text : headAnswers ks ≡ answerLine a ++ headAnswers ms
   pub size : length (headAnswers ks) ≡ length (answerLine a) + length (headAnswers ms)
-  pub short : length (answerLine a) ≤ 48
+  pub short : length (answerLine a) ≤ longestAnswer
 
 pub none-at-end : (ks : List Kind) → ks ≡ [] → NoAnswer ks
 unfolding answersAtHead headAnswers

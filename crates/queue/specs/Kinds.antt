@@ -20,16 +20,19 @@ answerCode OwnAnswer.ProtocolNotSupported = 2
 answerCode OwnAnswer.ParameterNotImplemented = 3
 answerCode (OwnAnswer.State sw) = stateCode (sw .epsv) (sw .eprt)
 
--- the last number of a kind
+-- AUTH's number, and the last of a kind
+abbrev pub authCode : ℕ
+authCode = 8
+
 abbrev pub lastCode : ℕ
-lastCode = 8
+lastCode = authCode
 
 -- the number of a kind
 unfoldable pub codeOf : Kind → ℕ
 codeOf Kind.Plain = 0
 codeOf Kind.TranslatedEpsv = 1
 codeOf (Kind.Own a) = answerCode a
-codeOf Kind.Auth = lastCode
+codeOf Kind.Auth = authCode
 
 -- "an owed kind not listed here" has a number over the last one
 unfoldable pub isListed : ℕ → Bool
@@ -48,7 +51,7 @@ kindOf n =
     (choose (eqb n 5) (stateKind true false)
     (choose (eqb n 6) (stateKind false true)
     (choose (eqb n 7) (stateKind true true)
-    (choose (eqb n lastCode) Kind.Auth Kind.Plain)))))))
+    (choose (eqb n authCode) Kind.Auth Kind.Plain)))))))
 
 -- the kinds owed, first one first
 unfoldable pub queueOf : List ℕ → ℕ → List Kind

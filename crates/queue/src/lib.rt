@@ -16,8 +16,10 @@ use rules::OWED;
 use rules::OwnAnswer;
 use rules::Switches;
 
-// The last number of a kind: a record with a higher one is refused.
-pub const LAST: u8 = 8;
+// AUTH's number, and the last of a kind: a record with a higher one is refused.
+const AUTH: u8 = 8;
+
+pub const LAST: u8 = AUTH;
 
 // A kind owed, or none.
 pub enum Owes {
@@ -33,7 +35,7 @@ fn code_of(kind: Kind) -> u8
         Kind::Plain => 0,
         Kind::TranslatedEpsv => 1,
         Kind::Own(answer) => answer_code(answer),
-        Kind::Auth => LAST,
+        Kind::Auth => AUTH,
     }
 }
 

@@ -1,13 +1,14 @@
-// The terms of the rules as types: the definitions in specs/ go by cases on them, and functions take and return them.
+// The sizes of the rules, and their terms as types: the definitions in specs/ go by cases on them, and functions take and return them.
 ghost use mathlib.Core.Path.{_≡_};
 ghost use Rattle.rules.specs.Answers.{answerNumber};
 
-// So many octets of an unfinished line are held at most: with its LF it is judged whole.
+// The most octets of an unfinished line that are held; with its LF such a line is judged whole.
 pub const HELD: usize = 511;
 
+// The octets that are held of a line.
 pub type Line = [u8; HELD];
 
-// So many replies are owed at most.
+// The most replies that are owed.
 pub const OWED: usize = 16;
 
 // The kinds owed, as numbers.

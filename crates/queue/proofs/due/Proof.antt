@@ -6,7 +6,7 @@ use native.Mathlib.Omega.{arith}
 use borrow.Author.Needs.{needs}
 use lib.ListN.{length, drop}
 use Rattle.rules.specs.Replies.{headAnswers}
-use Rattle.rules.specs.Answers.{mostOwed, mostAnswers}
+use Rattle.rules.specs.Answers.{mostOwed, mostAnswers, longestAnswer}
 use Rattle.queue.specs.Kinds.{queueOf, answersAtHead}
 use Rattle.queue.proofs.Answers.{stops, goes-on, none-kept, none-at-end}
 use Rattle.queue.proofs.due.Statement.{statement}
@@ -16,7 +16,7 @@ abbrev Inv-loop : tie.InvT-loop
 Inv-loop kinds from owed until₀ octets₀ until octets =
     (from + answersAtHead (drop from (queueOf kinds owed)) ≡ until + answersAtHead (drop until (queueOf kinds owed)))
     × (length (headAnswers (drop from (queueOf kinds owed))) ≡ octets + length (headAnswers (drop until (queueOf kinds owed))))
-    × (octets + 48 * (mostOwed - until) ≤ mostAnswers)
+    × (octets + longestAnswer * (mostOwed - until) ≤ mostAnswers)
 
 abbrev μ-loop : tie.MeasureT-loop
 μ-loop kinds from owed until₀ octets₀ until octets = mostOwed - until
