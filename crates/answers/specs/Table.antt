@@ -6,14 +6,14 @@ use mathlib.Core.Logic.{_≢_, _⊎_}
 use Prim.Native.Nat.{ℕ, _-_, _^_, _≤_, _<_}
 use lib.ListN.{length, take, getD}
 use Rattle.rules.specs.Answers.{Side, client, server, sideOf, answerNumber, mostOwed}
-use Rattle.rules.specs.Lines.{judged}
+use Rattle.rules.specs.Lines.{judged, passed}
 use Rattle.rules.specs.Setup.{eprtOn, eprtSupported}
 use Rattle.queue.specs.Kinds.{lastCode}
 use Rattle.places.specs.declared.Place.{Place}
 use Rattle.places.specs.declared.Direction.{Direction}
 use Rattle.steps.specs.declared.Fixed.{Fixed}
 use Rattle.records.specs.declared.Session.{Session}
-use Rattle.steps.specs.Steps.{State, Step, octetStep}
+use Rattle.steps.specs.Steps.{State, Step, heldOf, octetStep}
 use Rattle.records.specs.Sound.{directionOf}
 use Rattle.session.specs.Calls.{stateOf, fixedOf, sessionAfter, Outcome, arrived, endCalled, endStep}
 
@@ -151,10 +151,9 @@ module _ (c : Situation) (octets : List ℕ) where
 
 -- ---- an end
 
--- the octets that a direction holds, and the room in the buffer that they go into
+-- what the octets give that a direction holds, and the room in the buffer that it goes into
 abbrev pub heldOctets : Side → Session → List ℕ
-heldOctets client s = take (s .control .client .held) (s .command)
-heldOctets server s = take (s .control .server .held) (s .reply)
+heldOctets d s = passed (heldOf d (stateOf s))
 
 abbrev pub roomFor : Side → Situation → ℕ
 roomFor client c = c .serverRoom

@@ -1,9 +1,14 @@
 -- What is given, as a text.
-use mathlib.Core.Path.{_≡_, sym, ap}
-use mathlib.Core.List.{List}
+use mathlib.Core.Path.{_≡_, refl, sym, ap}
+use mathlib.Core.List.{List, [], _∷_, _++_}
 use Prim.Native.Nat.{ℕ}
+use Rattle.rules.specs.Lines.{passed}
 use Rattle.gives.specs.declared.Gives.{Gives}
 use Rattle.gives.specs.Text.{givesText}
 
 pub text-of : (mapped h : List ℕ) (x : ℕ) {g k : Gives} → g ≡ k → givesText mapped h x k ≡ givesText mapped h x g
 text-of mapped h x e = ap (givesText mapped h x) (sym e)
+
+-- a held octet gives what it gives by itself
+pub passed-more : (l : List ℕ) (x : ℕ) → passed (l ++ (x ∷ [])) ≡ passed l ++ passed (x ∷ [])
+passed-more l x = refl

@@ -1,6 +1,7 @@
 -- What an octet gives, as a text.
 use mathlib.Core.List.{List, [], _∷_, _++_}
 use Prim.Native.Nat.{ℕ}
+use Rattle.rules.specs.Lines.{passed}
 use Rattle.rules.specs.Commands.{pasvLine, portLine}
 use Rattle.rules.specs.Replies.{extendedPassiveLine}
 use Rattle.gives.specs.declared.Gives.{Gives}
@@ -10,7 +11,7 @@ unfoldable pub givesText : List ℕ → List ℕ → ℕ → Gives → List ℕ
 givesText mapped h x Gives.Held = []
 givesText mapped h x Gives.Nothing = []
 givesText mapped h x Gives.Octet = x ∷ []
-givesText mapped h x Gives.HeldAndOctet = h ++ (x ∷ [])
+givesText mapped h x Gives.HeldAndOctet = passed h ++ (x ∷ [])
 givesText mapped h x Gives.Pasv = pasvLine
 givesText mapped h x (Gives.Port p) = portLine mapped p
 givesText mapped h x (Gives.ExtendedPassive p) = extendedPassiveLine p

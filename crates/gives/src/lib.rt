@@ -2,6 +2,7 @@
 ghost use mathlib.Core.Path.{_≡_};
 ghost use mathlib.Core.List.{_++_, _∷_, []};
 ghost use lib.ListN.{length};
+ghost use Rattle.rules.specs.Lines.{passed};
 ghost use Rattle.output.specs.Buffer.{putAt, positionAfter};
 ghost use Rattle.gives.specs.Text.{givesText};
 
@@ -24,7 +25,7 @@ pub fn gives_length(gives: Gives, mapped: [u8; 4], held: &[u8], x: u8) -> usize
         Gives::Held => 0,
         Gives::Nothing => 0,
         Gives::Octet => 1,
-        Gives::HeldAndOctet => held.len() + 1,
+        Gives::HeldAndOctet => passed_length(held) + 1,
         Gives::Pasv => writers::pasv_length(),
         Gives::Port(port) => writers::port_line_length(mapped, port),
         Gives::ExtendedPassive(port) => writers::extended_passive_length(port),
@@ -62,17 +63,32 @@ fn put_octet(out: &mut [u8], at: usize, x: u8) -> usize
     output::put(out, at, &[x])
 }
 
-// A line's octets and one more behind them, all or nothing; the next position.
+// How many octets held octets give where they leave.
+pub fn passed_length(held: &[u8]) -> usize
+    ensures { λ r. ⌜ r ≡ length (passed (now (held .entry))) ⌝ }
+{
+    held.len()
+}
+
+// What they give is put into a buffer, all or nothing; the next position.
+pub fn put_passed(out: &mut [u8], at: usize, held: &[u8]) -> usize
+    ensures { λ r. ⌜ r ≡ positionAfter (now (out .entry)) at (passed (now (held .entry))) ⌝ }
+    ensures { λ r. ⌜ now (out .exit) ≡ putAt (now (out .entry)) at (passed (now (held .entry))) ⌝ }
+{
+    output::put(out, at, held)
+}
+
+// What a line's held octets give and one octet more behind it, all or nothing; the next position.
 pub fn put_line(out: &mut [u8], at: usize, held: &[u8], x: u8) -> usize
-    ensures { λ r. ⌜ r ≡ positionAfter (now (out .entry)) at (now (held .entry) ++ (x ∷ [])) ⌝ }
-    ensures { λ r. ⌜ now (out .exit) ≡ putAt (now (out .entry)) at (now (held .entry) ++ (x ∷ [])) ⌝ }
+    ensures { λ r. ⌜ r ≡ positionAfter (now (out .entry)) at (passed (now (held .entry)) ++ (x ∷ [])) ⌝ }
+    ensures { λ r. ⌜ now (out .exit) ≡ putAt (now (out .entry)) at (passed (now (held .entry)) ++ (x ∷ [])) ⌝ }
 {
     if out.len() < at {
         return at;
     }
-    if out.len() - at <= held.len() {
+    if out.len() - at <= passed_length(held) {
         return at;
     }
-    let next = output::put(out, at, held);
+    let next = put_passed(out, at, held);
     put_octet(out, next, x)
 }

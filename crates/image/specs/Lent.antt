@@ -1,18 +1,16 @@
 -- Calls on the record of an image, in memory that a host lends: the memory and the two buffers after them, and what is told.
 use mathlib.Core.Path.{_≡_}
-use mathlib.Core.List.{List, _++_}
+use mathlib.Core.List.{List}
 use Prim.Native.Nat.{ℕ}
 use lib.Dec.{leb}
-use lib.ListN.{length, drop}
+use lib.ListN.{length}
 use Rattle.rules.specs.Octets.{choose}
 use Rattle.rules.specs.Answers.{Side, client, server, answerNumber}
 use Rattle.records.specs.Layout.{commandAt, replyAt, clientPlaceAt, serverPlaceAt, clientHeldAt, serverHeldAt, upWrittenAt, downWrittenAt}
 use Rattle.output.specs.Buffer.{putAt}
 use Rattle.records.specs.declared.Session.{Session}
-use Rattle.records.specs.Sound.{directionOf}
-use Rattle.steps.specs.declared.Written.{Written}
 use Rattle.session.specs.declared.Called.{Called}
-use Rattle.session.specs.Calls.{Outcome, stateOf, sessionAfter, arrived, endStep, endOutcome, endCalled}
+use Rattle.session.specs.Calls.{Outcome, stateOf, sessionAfter, arrived, writtenFrom, endStep, bufferAfter, endCalled}
 use Rattle.image.specs.declared.arrival.Told.{Told}
 use Rattle.image.specs.Image.{imageOf, sessionOf}
 
@@ -30,24 +28,10 @@ imageAfter image k = choose (leb 3 (answerNumber (k .answer))) image (putAt imag
 
 -- "Buffers keep their old contents beyond the written count"
 unfoldable pub serverAfter : Outcome → List ℕ → List ℕ
-serverAfter o out = o .toServer ++ drop (o .called .written .server) out
+serverAfter o out = bufferAfter client o out
 
 unfoldable pub clientAfter : Outcome → List ℕ → List ℕ
-clientAfter o out = o .toClient ++ drop (o .called .written .client) out
-
--- an end that nothing refuses, by the room in the one buffer that the held octets go to
-unfoldable pub heldEnd : Session → Side → ℕ → Outcome
-heldEnd s d room = endOutcome s d (endStep d (stateOf s)) (leb (directionOf d (s .control) .held) room)
-
--- that buffer then
-unfoldable pub bufferAfter : Side → Outcome → List ℕ → List ℕ
-bufferAfter client o out = serverAfter o out
-bufferAfter server o out = clientAfter o out
-
--- n octets written for a side: the client's go to the server
-abbrev pub writtenFrom : Side → ℕ → Written
-writtenFrom client n = record { server = n; client = 0 }
-writtenFrom server n = record { server = 0; client = n }
+clientAfter o out = bufferAfter server o out
 
 -- the record after a side has ended, and n octets of it were written
 abbrev pub endedWith : Session → Side → ℕ → Session

@@ -7,19 +7,21 @@ ghost use Rattle.output.specs.Buffer.{putAt};
 ghost use Rattle.records.specs.Sound.{sideIf, Counted};
 ghost use lib.ListN.{length};
 ghost use Rattle.rules.specs.Lines.{mostHeld};
+ghost use Rattle.session.specs.Calls.{heldEnd, bufferAfter};
 ghost use Rattle.image.specs.Image.{imageOf, controlIn, fieldsIn, isImage};
-ghost use Rattle.image.specs.Lent.{endedOn, heldEnd, endedWith, placeAt, heldAt, lineAt, writtenAt, writtenFrom, imageAfter, serverAfter, clientAfter, bufferAfter, Tells};
+ghost use Rattle.image.specs.Lent.{endedOn, endedWith, placeAt, heldAt, lineAt, writtenAt, imageAfter, serverAfter, clientAfter, Tells};
 use crate::Told;
 use crate::arrival::nothing_written;
 use crate::is_image;
 use crate::number_at;
 use crate::put_number;
 use crate::refusal_in;
-use output::put;
+use gives::passed_length;
+use gives::put_passed;
 use records::Refusal;
 use records::layout;
 use rules::Answer;
-use steps::Written;
+use session::written_from;
 
 // A direction ends: its held octets go into its buffer. A call that is refused, or has no room for them, leaves the image
 // as it was. It asks what refuses it as an arrival does, each by itself, so that the compiler joins an arrival's tests with
@@ -58,17 +60,18 @@ fn end_held(image: &mut [u8], from_client: bool, out: &mut [u8]) -> Told
         × (now (out .exit) ≡ bufferAfter d o (now (out .entry))) ⌝ }
 {
     let count = held_at(from_client);
-    let held = number_at(image, count) as usize;
-    if out.len() < held {
+    let n = number_at(image, count) as usize;
+    let at = line_at(from_client);
+    let held = &image[at..at + n];
+    if out.len() < passed_length(held) {
         return nothing_written(Answer::NoRoom);
     }
-    let at = line_at(from_client);
-    let n = put(out, 0, &image[at..at + held]);
-    put_end(image, from_client, n);
+    let passed = put_passed(out, 0, held);
+    put_end(image, from_client, passed);
     Told {
         answer: Answer::Done,
         taken: 0,
-        written: written_from(from_client, n),
+        written: written_from(from_client, passed),
     }
 }
 
@@ -125,20 +128,4 @@ fn written_at(from_client: bool) -> usize
         return layout::UP_WRITTEN;
     }
     layout::DOWN_WRITTEN
-}
-
-// What was written for a direction: the client's octets go to the server.
-fn written_from(from_client: bool, n: usize) -> Written
-    ensures { λ r. ⌜ r ≡ writtenFrom (sideIf «from_client») n ⌝ }
-{
-    if from_client {
-        return Written {
-            server: n,
-            client: 0,
-        };
-    }
-    Written {
-        server: 0,
-        client: n,
-    }
 }

@@ -6,7 +6,7 @@ ghost use Rattle.rules.specs.Octets.{every};
 ghost use Rattle.rules.specs.Answers.{sideOf, isQueueFull, mostOwed};
 ghost use Rattle.places.specs.Places.{isPassing};
 ghost use Rattle.queue.specs.Kinds.{isListed};
-ghost use Rattle.records.specs.Controls.{withClient, withServer};
+ghost use Rattle.records.specs.Controls.{withClient, withServer, withEnded};
 ghost use Rattle.records.specs.Sound.{soundDirection, soundOf, directionOf, refusalOn, refusalOf, refusalBy, blocked as isBlocked, holdable as areHoldable, sideIf};
 use places::Direction;
 use places::Place;
@@ -187,6 +187,20 @@ pub fn with_server(control: Control, server: Direction, owed: usize, unfinished:
         owed,
         unfinished,
     }
+}
+
+// The control with what the end of a side changes.
+pub fn with_ended(control: Control, from_client: bool) -> Control
+    ensures { λ r. ⌜ r ≡ withEnded (sideIf «from_client») control ⌝ }
+{
+    let ended = Direction {
+        place: Place::Ended,
+        held: 0,
+    };
+    if from_client {
+        return with_client(control, control.switches, ended, control.owed);
+    }
+    with_server(control, ended, control.owed, control.unfinished)
 }
 
 // The next octet is the client's, AUTH is not yet recognised, and 16 replies are owed.

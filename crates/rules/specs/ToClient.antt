@@ -7,7 +7,7 @@ use lib.ListN.{length}
 use Rattle.rules.specs.Octets.{lf, choose}
 use Rattle.rules.specs.Answers.{client, server}
 use Rattle.rules.specs.Setup.{Setup, setupSwitches}
-use Rattle.rules.specs.Lines.{judged, isWhole, startsAuth, unchanged, content}
+use Rattle.rules.specs.Lines.{judged, isWhole, startsAuth, passed, unchanged, content}
 use Rattle.rules.specs.Replies.{isAuth, replyLine, leavesUnfinished, owedAfter, headAnswers, withoutAnswers, authAtHead}
 use Rattle.rules.specs.Edition.{ClientLine, LineRules, document01}
 use Rattle.rules.specs.History.{Item, octet, end}
@@ -87,7 +87,7 @@ serverLine rules owed unfinished l =
 
 -- "up to 511 without LF give nothing, a 512th not LF gives all, later ones themselves": l ends with the octet x
 unfoldable pub lineOctetGives : List ℕ → ℕ → List ℕ
-lineOctetGives l x = choose (isWhole l) [] (choose (eqb (length l) judged) l (x ∷ []))
+lineOctetGives l x = choose (isWhole l) [] (choose (eqb (length l) judged) (passed l) (x ∷ []))
 
 unfoldable pub lineOctet : List Kind → Bool → List ℕ → ℕ → ServerStep
 lineOctet owed unfinished l x = serverStepTo (inLine l) owed unfinished (lineOctetGives l x)
@@ -129,7 +129,7 @@ unfoldable pub authStep : ServerStep → ServerStep
 authStep t =
     let s = t .state in
     choose (authAtHead (s .owed))
-    (serverStepTo (passesFromNow (s .place)) (s .owed) (s .unfinished) (t .gives ++ held (s .place)))
+    (serverStepTo (passesFromNow (s .place)) (s .owed) (s .unfinished) (t .gives ++ passed (held (s .place))))
     t
 
 -- after an octet that gave what `t` says and put `new` on the queue
@@ -149,7 +149,7 @@ readToClient rules c s (octet server x ∷ is) =
     t .gives ++ readToClient rules c (t .state) is
 readToClient rules c s (end client ∷ is) = readToClient rules (record { lineState = c .lineState; place = ended }) s is
 readToClient rules c s (end server ∷ is) =
-    held (s .place) ++ readToClient rules c (record { place = ended; owed = s .owed; unfinished = s .unfinished }) is
+    passed (held (s .place)) ++ readToClient rules c (record { place = ended; owed = s .owed; unfinished = s .unfinished }) is
 
 -- "the kinds owed (at first plain, the greeting)"
 abbrev pub freshServer : ServerState

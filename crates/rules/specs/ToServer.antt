@@ -5,7 +5,7 @@ use Prim.Native.Nat.{ℕ}
 use lib.Dec.{eqb}
 use Rattle.rules.specs.Octets.{lf, choose}
 use Rattle.rules.specs.Setup.{Setup, setupSwitches}
-use Rattle.rules.specs.Lines.{isWhole, startsAuth, unchanged}
+use Rattle.rules.specs.Lines.{isWhole, startsAuth, passed, unchanged}
 use Rattle.rules.specs.Replies.{isAuth}
 use Rattle.rules.specs.Edition.{ClientLine, LineRules, document01}
 use Rattle.rules.specs.declared.Kind.{Kind}
@@ -46,7 +46,7 @@ finishedLine rules st l =
 
 -- "An unfinished one gives nothing up to 511 octets, and itself from 512 or once the client has ended"
 unfoldable pub unfinishedLine : List ℕ → Bool → List ℕ
-unfinishedLine rest ended = choose (isWhole rest) (choose ended rest []) rest
+unfinishedLine rest ended = choose (isWhole rest) (choose ended (passed rest) []) (passed rest)
 
 unfoldable pub readLines : (rules : LineRules) → rules .LineState → List (List ℕ) → List ℕ → Bool → List ℕ
 readLines rules st [] rest ended = unfinishedLine rest ended

@@ -6,21 +6,24 @@ use mathlib.Core.Option.{Option, none}
 use Prim.Native.Nat.{ℕ, zero, suc, _≤_, _<_}
 use lib.Dec.{eqb, eqb·suc-zero, leb, leb·zero}
 use lib.ListN.{length, drop}
-use lib.Seq.{length-take-le}
-use borrow.Author.Tests.{lt-leb}
+use borrow.Author.Tests.{le-leb, lt-leb}
+use native.Mathlib.Omega.{arith}
 use Rattle.rules.specs.Answers.{Side, client, server, sideOf, fits}
+use Rattle.rules.specs.Lines.{passed}
 use Rattle.rules.specs.declared.Answer.{Answer}
 use Rattle.session.specs.declared.Called.{Called}
 use Rattle.records.specs.declared.Counts.{Counts}
 use Rattle.records.specs.declared.Session.{Session}
 use Rattle.steps.specs.declared.Written.{Written}
 use Rattle.records.specs.declared.Refusal.{Refusal}
-use Rattle.steps.specs.Steps.{State, Step}
+use Rattle.output.specs.Buffer.{putAt, positionAfter}
+use Rattle.steps.specs.Steps.{State, heldOf}
 use Rattle.steps.specs.Takes.{Took, takes, Core, coreFrom, coreTook}
-use Rattle.session.specs.Calls.{Outcome, counted, takenFor, fixedOf, stateOf, sessionAfter, refused, unlessRefused, outcome, arrived, endStep, endOutcome, endCalled}
+use Rattle.session.specs.Calls.{Outcome, counted, takenFor, fixedOf, stateOf, sessionAfter, refused, unlessRefused, outcome, arrived, goesTo, writtenFrom, endStep, endOutcome, heldEnd, bufferAfter, endCalled}
 use Rattle.records.specs.Sound.{refusalOf, refusalBy, sideIf}
 use Rattle.records.proofs.Sides.{not-zero}
 use Rattle.records.proofs.Refusals.{by-answer}
+use Rattle.output.proofs.Placing.{after-fits}
 use Rattle.output.proofs.Front.{front-put}
 use Rattle.steps.proofs.Fits.{takes-fit}
 
@@ -103,36 +106,71 @@ module _ (s : Session) (d : ℕ) (octets out other : List ℕ) (side : Side) (sa
 
 -- ---- an end
 
-pub no-room : (s : Session) (d : Side) (t : Step) (held : ℕ) (out other : List ℕ) {r : Called} → length out < held → r ≡ refused Answer.NoRoom s .called
-    → Promised (endOutcome s d t (leb held (length out))) r out other out other
-unfolding endOutcome
-no-room s d t held out other h e = rw (lt-leb held (length out) h) (promised-refused s Answer.NoRoom out other e)
+-- what an end leaves of the side d: what it returns, and the one buffer that the held octets go to
+module _ (s : Session) (d : Side) (out : List ℕ) where
+  abbrev text : List ℕ
+  text = passed (heldOf d (stateOf s))
 
--- the held octets have gone out
-pub passed-on : (s : Session) (d : Side) (t : Step) {a b : ℕ} {s′ : Session} → a ≡ length (t .toServer) → b ≡ length (t .toClient)
-    → s′ ≡ sessionAfter s d 0 a b (t .state)
-    → record { answer = Answer.Done; taken = 0; written = record { server = a; client = b }; session = s′ } ≡ endOutcome s d t true .called
-unfolding endOutcome outcome
-passed-on s d t p q e = rw (e, p, q)
+  abbrev pub Left : Called → List ℕ → Type 0
+  Left r out′ = (r ≡ heldEnd s d (length out) .called) × (out′ ≡ bufferAfter d (heldEnd s d (length out)) out)
 
--- a buffer for which the end has no text is as it was
-pub untouched : (s : Session) (d : Side) (t : Step) (b : Bool) (buffer : List ℕ) {r : Called} → r ≡ endOutcome s d t b .called
-    → (t .toServer ≡ [] → buffer ≡ endOutcome s d t b .toServer ++ drop (r .written .server) buffer)
-    × (t .toClient ≡ [] → buffer ≡ endOutcome s d t b .toClient ++ drop (r .written .client) buffer)
-unfolding endOutcome outcome refused
-untouched s d t true buffer e = (λ p. rw (e, p), λ p. rw (e, p))
-untouched s d t false buffer e = (λ p. rw e, λ p. rw e)
+  -- where they have no room
+  same-buffer : (e : Side) → out ≡ bufferAfter e (refused Answer.NoRoom s) out
+  unfolding refused
+  same-buffer client = refl
+  same-buffer server = refl
 
--- which octets an end passes on, and when they have room
+  pub no-room : {n : ℕ} {r : Called} → n ≡ length text → length out < n → r ≡ refused Answer.NoRoom s .called → Left r out
+  unfolding heldEnd endOutcome
+  no-room p less e = rw (lt-leb (length text) (length out) (omega arith)) (e, same-buffer d)
+
+  -- where they have room, and n octets were put
+  sizes : (e : Side) (l : List ℕ) → writtenFrom e (length l) ≡ record { server = length (goesTo server e l); client = length (goesTo client e l) }
+  sizes client l = refl
+  sizes server l = refl
+
+  buffer-then : (e : Side) → passed (heldOf e (stateOf s)) ++ drop (length (passed (heldOf e (stateOf s)))) out
+      ≡ bufferAfter e (endOutcome s e (endStep e (stateOf s)) true) out
+  unfolding endStep endOutcome outcome
+  buffer-then client = refl
+  buffer-then server = refl
+
+  pub passed-on : {m n : ℕ} {out′ : List ℕ} {w : Written} {s′ : Session} → m ≡ length text → m ≤ length out → n ≡ positionAfter out 0 text
+      → out′ ≡ putAt out 0 text → w ≡ writtenFrom d n → s′ ≡ sessionAfter s d 0 (w .server) (w .client) (endStep d (stateOf s) .state)
+      → Left (record { answer = Answer.Done; taken = 0; written = w; session = s′ }) out′
+  unfolding heldEnd endOutcome outcome endStep
+  passed-on {n = n} measured fit en eo ew es =
+      let room : length text ≤ length out = omega arith in
+      let size : n ≡ length text = omega (arith, after-fits out 0 text (omega arith)) in
+      let wrote = ew ∙ (ap (writtenFrom d) size ∙ sizes d text) in
+      rw (le-leb (length text) (length out) room) (
+        rw (es, wrote),
+        eo ∙ (front-put out text room ∙ buffer-then d),
+      )
+
+-- a buffer for which an end has no text is as it was
+pub untouched : (s : Session) (b : Bool) (buffer : List ℕ)
+    → (buffer ≡ bufferAfter server (endOutcome s client (endStep client (stateOf s)) b) buffer)
+    × (buffer ≡ bufferAfter client (endOutcome s server (endStep server (stateOf s)) b) buffer)
+unfolding endOutcome outcome refused endStep
+untouched s true buffer = (refl, refl)
+untouched s false buffer = (refl, refl)
+
+-- an end by its direction's number looks at the one buffer that its side's octets go to
 module _ (s : Session) (d : ℕ) (out other : List ℕ) (free : refusalOf s d ≡ none) where
-  pub client-ends : d ≡ 0 → s .control .client .held ≤ length (s .command)
-      → endCalled s d (length out) (length other) ≡ endOutcome s client (endStep client (stateOf s)) (leb (s .control .client .held) (length out))
-  unfolding endCalled unlessRefused endStep fits
-  client-ends z h =
-      rw (free, z, length-take-le (s .control .client .held) (s .command) h, leb·zero (length other), and-true (leb (s .control .client .held) (length out)))
+  pub client-ends : d ≡ 0 → endCalled s d (length out) (length other) ≡ heldEnd s client (length out)
+  unfolding endCalled unlessRefused heldEnd endStep fits
+  client-ends z = rw (free, z, leb·zero (length other), and-true (leb (length (passed (heldOf client (stateOf s)))) (length out)))
 
-  pub server-ends : (d ≡ 0 → ⊥) → s .control .server .held ≤ length (s .reply)
-      → endCalled s d (length out) (length other) ≡ endOutcome s server (endStep server (stateOf s)) (leb (s .control .server .held) (length other))
-  unfolding endCalled unlessRefused endStep fits
-  server-ends z h =
-      rw (free, not-zero d z, length-take-le (s .control .server .held) (s .reply) h, leb·zero (length out))
+  pub server-ends : (d ≡ 0 → ⊥) → endCalled s d (length out) (length other) ≡ heldEnd s server (length other)
+  unfolding endCalled unlessRefused heldEnd endStep fits
+  server-ends z = rw (free, not-zero d z, leb·zero (length out))
+
+  module _ {r : Called} {changed : List ℕ} where
+    pub client-ended : d ≡ 0 → Left s client out r changed → Promised (endCalled s d (length out) (length other)) r out other changed other
+    unfolding heldEnd
+    client-ended z (e, b) = rw (client-ends z, e) (refl, (b, untouched s _ other .0))
+
+    pub server-ended : (d ≡ 0 → ⊥) → Left s server other r changed → Promised (endCalled s d (length out) (length other)) r out other out changed
+    unfolding heldEnd
+    server-ended z (e, b) = rw (server-ends z, e) (refl, (untouched s _ out .1, b))

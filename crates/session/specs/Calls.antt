@@ -1,29 +1,31 @@
 -- What setup, arrival, end and offset answer, take, write and leave in the record.
 use mathlib.Core.Bool.{Bool, true, false}
-use mathlib.Core.List.{List, []}
+use mathlib.Core.List.{List, [], _++_}
 use mathlib.Core.Option.{Option, none, some}
 use Prim.Native.Nat.{ℕ, zero, suc, _+_, _-_}
-use lib.ListN.{length, take, replicate}
+use lib.Dec.{leb}
+use lib.ListN.{length, drop, replicate}
 use Rattle.rules.specs.Octets.{choose}
 use Rattle.rules.specs.Answers.{Side, client, server, sideOf, mostOwed, fits, wrapped, offsetOf}
 use Rattle.rules.specs.Setup.{eprtSupported, setupSwitches, badFlags, setupAnswer}
-use Rattle.rules.specs.Lines.{judged}
+use Rattle.rules.specs.Lines.{judged, passed}
 use Rattle.rules.specs.declared.Answer.{Answer}
 use Rattle.rules.specs.declared.Switches.{Switches}
 use Rattle.records.specs.Layout.{ipv6Width, ipv4Width}
 use Rattle.places.specs.declared.Place.{Place}
 use Rattle.places.specs.declared.Direction.{Direction}
 use Rattle.records.specs.declared.Control.{Control}
-use Rattle.records.specs.Controls.{withClient, withServer}
+use Rattle.records.specs.Controls.{withEnded}
 use Rattle.records.specs.declared.Counts.{Counts}
 use Rattle.records.specs.declared.Session.{Session}
 use Rattle.records.specs.Sound.{refusalOf, sound-opened}
 use Rattle.steps.specs.declared.Fixed.{Fixed}
+use Rattle.steps.specs.declared.Written.{Written}
 use Rattle.session.specs.declared.Prepared.{Prepared}
 use Rattle.session.specs.declared.Called.{Called}
 use Rattle.session.specs.declared.DirectionOffset.{DirectionOffset}
 use Rattle.places.specs.Places.{at}
-use Rattle.steps.specs.Steps.{State, Step}
+use Rattle.steps.specs.Steps.{State, Step, heldOf}
 use Rattle.steps.specs.Takes.{Took, takes, takes-opened}
 
 -- ---- setup
@@ -153,34 +155,26 @@ arrived s d octets serverRoom clientRoom =
 
 -- ---- ends
 
-abbrev pub endedDirection : Direction
-endedDirection = at Place.Ended 0
+-- of a text that one side gives, what goes to a side: all of it to the other, and nothing back
+abbrev pub goesTo : Side → Side → List ℕ → List ℕ
+goesTo client client l = []
+goesTo client server l = l
+goesTo server client l = l
+goesTo server server l = []
+
+-- n octets written for a side: the client's go to the server
+abbrev pub writtenFrom : Side → ℕ → Written
+writtenFrom client n = record { server = n; client = 0 }
+writtenFrom server n = record { server = 0; client = n }
 
 -- "Ending a direction passes its held octets on unchanged and owes nothing for them"
 unfoldable pub endStep : Side → State → Step
-endStep client s =
-    let c = s .control in
+endStep d s =
+    let l = passed (heldOf d s) in
     record {
-      state = record {
-        control = withClient c (c .switches) endedDirection (c .owed);
-        command = s .command;
-        reply = s .reply;
-        kinds = s .kinds;
-      };
-      toServer = take (c .client .held) (s .command);
-      toClient = [];
-    }
-endStep server s =
-    let c = s .control in
-    record {
-      state = record {
-        control = withServer c endedDirection (c .owed) (c .unfinished);
-        command = s .command;
-        reply = s .reply;
-        kinds = s .kinds;
-      };
-      toServer = [];
-      toClient = take (c .server .held) (s .reply);
+      state = record { control = withEnded d (s .control); command = s .command; reply = s .reply; kinds = s .kinds };
+      toServer = goesTo server d l;
+      toClient = goesTo client d l;
     }
 
 -- "if they do not fit, answer 2 and nothing changes"
@@ -189,6 +183,15 @@ endOutcome s d t true =
     outcome s d
     (record { answer = Answer.Done; taken = 0; toServer = t .toServer; toClient = t .toClient; state = t .state })
 endOutcome s d t false = refused Answer.NoRoom s
+
+-- an end that nothing refuses, by the room in the one buffer that the held octets go to
+unfoldable pub heldEnd : Session → Side → ℕ → Outcome
+heldEnd s d room = endOutcome s d (endStep d (stateOf s)) (leb (length (passed (heldOf d (stateOf s)))) room)
+
+-- the buffer that a side's octets go to: "Buffers keep their old contents beyond the written count"
+abbrev pub bufferAfter : Side → Outcome → List ℕ → List ℕ
+bufferAfter client o out = o .toServer ++ drop (o .called .written .server) out
+bufferAfter server o out = o .toClient ++ drop (o .called .written .client) out
 
 -- an end: refused, or its held octets pass if they have room
 unfoldable pub endCalled : Session → ℕ → ℕ → ℕ → Outcome
@@ -207,5 +210,5 @@ offset s (suc (suc d)) = DirectionOffset.UnknownDirection
 
 -- this page's definitions, for a proof that computes with them
 unfoldable pub calls-opened : Unit {0}
-unfolding sound-opened takes-opened freshSession deadSession prepared sessionAfter refused unlessRefused outcome arrived endStep endOutcome endCalled offset
+unfolding sound-opened takes-opened freshSession deadSession prepared sessionAfter refused unlessRefused outcome arrived endStep endOutcome heldEnd endCalled offset
 calls-opened = tt

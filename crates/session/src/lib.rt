@@ -1,21 +1,24 @@
 // The session: setup, arrival, end and offsets, for every record and every buffer.
 ghost use mathlib.Core.Path.{_≡_};
-ghost use mathlib.Core.List.{_++_};
-ghost use lib.Dec.{leb};
+ghost use mathlib.Core.List.{List, _++_};
 ghost use lib.ListN.{length, drop, replicate};
-ghost use Prim.Native.Nat.{_≤_};
+ghost use Prim.Native.Nat.{ℕ};
 ghost use Rattle.rules.specs.Answers.{wrapped, client as clientSide, server as serverSide, mostOwed};
 ghost use Rattle.rules.specs.Lines.{mostHeld};
 ghost use Rattle.records.specs.Layout.{ipv6Width, ipv4Width};
-ghost use Rattle.session.specs.Calls.{prepared, endedDirection, startSession, startControl, deadSession, stateOf, arrived, endStep, endOutcome, endCalled, refused as refusedOutcome, counted as countedBy, takenFor, sessionAfter, offset as offsetIn};
+ghost use Rattle.session.specs.Calls.{prepared, startSession, startControl, deadSession, arrived, heldEnd, bufferAfter, writtenFrom, endCalled, refused as refusedOutcome, counted as countedBy, takenFor, sessionAfter, offset as offsetIn};
 ghost use Rattle.output.specs.Buffer.{putAt};
 ghost use Rattle.records.specs.Sound.{sideIf};
+ghost use Rattle.steps.specs.Steps.{heldOf};
 ghost use Rattle.steps.specs.Takes.{stateFrom};
 use arrivals::take;
+use gives::passed_length;
+use gives::put_passed;
 use output::put;
 use output::sixteen;
 use places::Direction;
 use places::Place;
+use places::first_octets;
 use records::Control;
 use records::Counts;
 use records::Refusal;
@@ -26,8 +29,7 @@ use records::layout::LENT_MAPPED;
 use records::layout::LENT_REPLY;
 use records::layout::LENT_SIZE;
 use records::refusal_of;
-use records::with_client;
-use records::with_server;
+use records::with_ended;
 use rules::Answer;
 use rules::HELD;
 use rules::Kinds;
@@ -321,73 +323,72 @@ pub fn end(session: Session, direction: u8, to_server: &mut [u8], to_client: &mu
         return refused(answer, session);
     }
     if direction == 0 {
-        return end_client(session, to_server);
+        return end_held(session, true, to_server);
     }
-    end_server(session, to_client)
+    end_held(session, false, to_client)
 }
 
-// The client's direction ends: what is held of its line goes to the server.
-fn end_client(session: Session, to_server: &mut [u8]) -> Called
-    requires { ⌜ session .control .client .held ≤ mostHeld ⌝ }
-    ensures { λ r. ⌜ r ≡ endOutcome session clientSide (endStep clientSide (stateOf session)) (leb (session .control .client .held) (length (now («to_server» .entry)))) .called ⌝ }
-    ensures { λ r. ⌜ now («to_server» .exit) ≡ endOutcome session clientSide (endStep clientSide (stateOf session)) (leb (session .control .client .held) (length (now («to_server» .entry)))) .toServer ++ drop (r .written .server) (now («to_server» .entry)) ⌝ }
+// The same where nothing refuses it: what is held of the direction's line goes into its one buffer.
+fn end_held(session: Session, from_client: bool, out: &mut [u8]) -> Called
+    ensures { λ r.
+        let d = sideIf «from_client» in
+        let o = heldEnd session d (length (now (out .entry))) in
+        ⌜ (r ≡ o .called) × (now (out .exit) ≡ bufferAfter d o (now (out .entry))) ⌝ }
 {
     let before = session.control;
-    let direction = before.client;
-    let held = direction.held;
-    if to_server.len() < held {
-        return refused(Answer::NoRoom, session);
-    }
     let command = session.command;
     let reply = session.reply;
     let kinds = session.kinds;
-    let written = Written {
-        server: put(to_server, 0, &command[..held]),
-        client: 0,
-    };
-    let control = with_client(before, before.switches, ended_direction(), before.owed);
+    let held = held_of(before, from_client, &command, &reply);
+    if out.len() < passed_length(held) {
+        return refused(Answer::NoRoom, session);
+    }
+    let written = written_from(from_client, put_passed(out, 0, held));
+    let control = with_ended(before, from_client);
     Called {
         answer: Answer::Done,
         taken: 0,
         written,
-        session: after(session, true, 0, written, control, command, reply, kinds),
+        session: after(
+            session,
+            from_client,
+            0,
+            written,
+            control,
+            command,
+            reply,
+            kinds,
+        ),
     }
 }
 
-// The server's direction ends: what is held of its line goes to the client.
-fn end_server(session: Session, to_client: &mut [u8]) -> Called
-    requires { ⌜ session .control .server .held ≤ mostHeld ⌝ }
-    ensures { λ r. ⌜ r ≡ endOutcome session serverSide (endStep serverSide (stateOf session)) (leb (session .control .server .held) (length (now («to_client» .entry)))) .called ⌝ }
-    ensures { λ r. ⌜ now («to_client» .exit) ≡ endOutcome session serverSide (endStep serverSide (stateOf session)) (leb (session .control .server .held) (length (now («to_client» .entry)))) .toClient ++ drop (r .written .client) (now («to_client» .entry)) ⌝ }
+// The held octets of a side: the front of its line.
+fn held_of<'a>(control: Control, from_client: bool, command: &'a [u8], reply: &'a [u8]) -> &'a [u8]
+    ensures { λ r.
+        ⌜ ((kinds : List ℕ) → now r
+        ≡ heldOf (sideIf «from_client») (stateFrom control (now (command .entry)) (now (reply .entry)) kinds)) ⌝ }
 {
-    let before = session.control;
-    let direction = before.server;
-    let held = direction.held;
-    if to_client.len() < held {
-        return refused(Answer::NoRoom, session);
+    if from_client {
+        let client = control.client;
+        return first_octets(command, client.held);
     }
-    let command = session.command;
-    let reply = session.reply;
-    let kinds = session.kinds;
-    let written = Written {
+    let server = control.server;
+    first_octets(reply, server.held)
+}
+
+// What was written for a direction: the client's octets go to the server.
+pub fn written_from(from_client: bool, n: usize) -> Written
+    ensures { λ r. ⌜ r ≡ writtenFrom (sideIf «from_client») n ⌝ }
+{
+    if from_client {
+        return Written {
+            server: n,
+            client: 0,
+        };
+    }
+    Written {
         server: 0,
-        client: put(to_client, 0, &reply[..held]),
-    };
-    let control = with_server(before, ended_direction(), before.owed, before.unfinished);
-    Called {
-        answer: Answer::Done,
-        taken: 0,
-        written,
-        session: after(session, false, 0, written, control, command, reply, kinds),
-    }
-}
-
-fn ended_direction() -> Direction
-    ensures { λ r. ⌜ r ≡ endedDirection ⌝ }
-{
-    Direction {
-        place: Place::Ended,
-        held: 0,
+        client: n,
     }
 }
 

@@ -1,8 +1,10 @@
 -- By the cases of what is given.
 use mathlib.Core.List.{[], _∷_}
 use mathlib.Core.Path.{ap, sym, _∙_}
+use Prim.Native.Nat.{ℕ, _+_}
 use lib.ListN.{length, length-append}
 use borrow.Author.Needs.{needs}
+use Rattle.rules.specs.Lines.{passed}
 use Rattle.gives.specs.Text.{givesText}
 use Rattle.gives.proofs.Texts.{text-of}
 use Rattle.gives.proofs.gives_length.Statement.{statement}
@@ -19,6 +21,9 @@ enum-told-3 c = search needs
 
 enum-told-4 : tie.Need-enum-told-4
 enum-told-4 c = search needs
+
+passed-length-requires : tie.Need-passed-length-requires
+passed-length-requires c κs = search needs
 
 add-result : tie.Need-add-result
 add-result c = search needs
@@ -56,8 +61,9 @@ returns-3 c = ap length (text-of _ _ _ (c .enum-told3 .given .1))
 returns-4 : tie.Need-returns-4
 unfolding givesText
 returns-4 c =
-    let a = c .before .before .before .args in
-    sym (length-append (a .held .now) (a .x ∷ [])) ∙ ap length (text-of _ _ _ (c .enum-told4 .given .1))
+    let a = c .before .before .before .before .args in
+    ap (λ (n : ℕ). n + 1) (c .passed-length .ensures)
+    ∙ (sym (length-append (passed (a .held .now)) (a .x ∷ [])) ∙ ap length (text-of _ _ _ (c .before .enum-told4 .given .1)))
 
 returns-5 : tie.Need-returns-5
 unfolding givesText
@@ -79,6 +85,7 @@ gives-length-spec =
     enum-told-2
     enum-told-3
     enum-told-4
+    passed-length-requires
     add-result
     enum-told-5
     pasv-length-requires

@@ -1,25 +1,38 @@
 -- No room by either test, or the octet put after the held ones.
-use mathlib.Core.List.{[], _∷_, _++_}
+use mathlib.Core.Path.{_≡_}
+use mathlib.Core.List.{List, [], _∷_, _++_}
+use Prim.Native.Nat.{ℕ, _+_}
 use native.Mathlib.Omega.{arith}
-use lib.ListN.{length-append}
+use lib.ListN.{length, length-append}
 use borrow.Author.Needs.{needs}
+use Rattle.rules.specs.Lines.{passed}
 use Rattle.output.proofs.Placing.{no-room, joined}
 use Rattle.gives.proofs.put_line.Statement.{statement}
 use Rattle.gives.proofs.put_line.Tie as tie
 
+-- what is put, and its length
+module _ (c : tie.Start) where
+  abbrev text : List ℕ
+  text = passed (c .args .held .now) ++ (c .args .x ∷ [])
+
+  long : length text ≡ length (passed (c .args .held .now)) + 1
+  long = length-append (passed (c .args .held .now)) (c .args .x ∷ [])
+
 returns : tie.Need-returns
-returns c = let a = c .before .before .before .args in
-    no-room (a .out .now) (a .at) (a .held .now ++ (a .x ∷ [])) (omega (arith, length-append (a .held .now) (a .x ∷ [])))
+returns c =
+    let start = c .before .before .before in
+    no-room (start .args .out .now) (start .args .at) (text start) (omega (arith, long start))
 
 sub-if2 : tie.Need-sub-if2
 sub-if2 c = search needs
 
 returns-2 : tie.Need-returns-2
-returns-2 c = let a = c .before .before .before .before .args in
-    no-room (a .out .now) (a .at) (a .held .now ++ (a .x ∷ [])) (omega (arith, length-append (a .held .now) (a .x ∷ [])))
+returns-2 c =
+    let start = c .before .before .before .before .before in
+    no-room (start .args .out .now) (start .args .at) (text start) (omega (arith, long start, c .before .passed-length .ensures))
 
-put-requires : tie.Need-put-requires
-put-requires c κs = search needs
+put-passed-requires : tie.Need-put-passed-requires
+put-passed-requires c κs = search needs
 
 put-octet-requires : tie.Need-put-octet-requires
 put-octet-requires c κs = search needs
@@ -28,13 +41,15 @@ same-length : tie.Need-same-length
 same-length c = search needs
 
 returns-3 : tie.Need-returns-3
-returns-3 c = let d = c .before .before .before .before .before .before in
-    let t = d .before .before in
-    let a = t .before .before .before .before .args in
-    joined (a .out .now) (a .at) (a .held .now) (a .x ∷ []) (λ _. d .put .ensures) (λ _. c .before .before .put-octet .ensures)
-    (omega (arith, length-append (a .held .now) (a .x ∷ [])))
+returns-3 c =
+    let d = c .before .before .before .before .before .before in
+    let m = d .before .before .before in
+    let start = m .before .before .before .before in
+    let a = start .args in
+    joined (a .out .now) (a .at) (passed (a .held .now)) (a .x ∷ []) (λ _. d .put-passed .ensures) (λ _. c .before .before .put-octet .ensures)
+    (omega (arith, long start, m .passed-length .ensures))
 
 pub put-line-spec : {M : Type 1} → statement M
 put-line-spec =
     tie.close
-    (tie.spec returns sub-if2 returns-2 put-requires put-octet-requires same-length returns-3)
+    (tie.spec returns sub-if2 (λ c κs. search needs) returns-2 put-passed-requires put-octet-requires same-length returns-3)

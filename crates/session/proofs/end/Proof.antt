@@ -1,25 +1,16 @@
 -- `session::end` meets its contract: a refusal, or the end of one side, with the other buffer as it was.
-use mathlib.Core.Path.{_≡_, refl, sym, _∙_}
-use Prim.Native.Nat.{_≤_}
-use native.Mathlib.Omega.{arith}
-use lib.ListN.{length}
+use mathlib.Core.Path.{_≡_, sym, _∙_}
+use mathlib.Core.Option.{none}
 use borrow.Author.Needs.{needs}
-use Rattle.rules.specs.Answers.{client, server}
-use Rattle.rules.specs.Lines.{mostHeld}
-use Rattle.session.specs.Calls.{stateOf, endStep, endCalled}
-use Rattle.records.proofs.Refusals.{by-nothing, countable}
-use Rattle.session.proofs.Outcomes.{client-ends, server-ends, untouched, turned-away}
+use Rattle.records.specs.Sound.{refusalOf}
+use Rattle.session.specs.Calls.{endCalled}
+use Rattle.records.proofs.Refusals.{by-nothing}
+use Rattle.session.proofs.Outcomes.{client-ended, server-ended, turned-away}
 use Rattle.session.proofs.end.Statement.{statement}
 use Rattle.session.proofs.end.Tie as tie
 
-refusal-of-requires : tie.Need-refusal-of-requires
-refusal-of-requires c κs = search needs
-
 enum-known-answer : tie.Need-enum-known-answer
 enum-known-answer c = search needs
-
-refused-requires : tie.Need-refused-requires
-refused-requires c κs = search needs
 
 returns : tie.Need-returns
 unfolding endCalled
@@ -30,58 +21,38 @@ returns c =
 enum-told : tie.Need-enum-told
 enum-told c = search needs
 
-end-client-requires : tie.Need-end-client-requires
-end-client-requires c κs =
-    let a = c .before .before .before .before .before .before .before .args in
-    countable (a .session) (a .direction) (by-nothing _ (sym (c .before .before .before .before .refusal-of .ensures) ∙ c .before .before .enum-told .given .1)) .command
+-- nothing refuses the end
+module _ (c : tie.After-enum-told) where
+  abbrev start : tie.Start
+  start = c .before .before .before .before .before
 
-same-length : tie.Need-same-length
-same-length c = search needs
+  free : refusalOf (start .args .session) (start .args .direction) ≡ none
+  free = by-nothing _ (sym (c .before .before .refusal-of .ensures) ∙ c .enum-told .given .1)
 
 returns-2 : tie.Need-returns-2
-unfolding endStep
 returns-2 c =
-    let a = c .before .before .before .before .before .before .before .before .before .before .args in
-    let s = a .session in
-    let free = by-nothing _ (sym (c .before .before .before .before .before .before .before .refusal-of .ensures) ∙ c .before .before .before .before .before .enum-told .given .1) in
-    let known = c .before .before .before .before .before .before .before .before .before .before .good .0 .1 .1 .1 .1 .1 .1 .1 .0 in
-    let size : length (s .command) ≡ mostHeld = search needs in
-    let held : s .control .client .held ≤ length (s .command) = omega (arith, size, countable s (a .direction) free .command) in
-    rw (client-ends s (a .direction) (a .to-server .now) (a .to-client .now) free (c .before .before .before .before .if1 .taken) held)
-    (c .before .before .end-client .ensures .0, (c .before .before .end-client .ensures .1, untouched s client (endStep client (stateOf s)) _ (a .to-client .now) (c .before .before .end-client .ensures .0) .1 refl))
-
-end-server-requires : tie.Need-end-server-requires
-end-server-requires c κs =
-    let a = c .before .before .before .before .before .before .before .args in
-    countable (a .session) (a .direction) (by-nothing _ (sym (c .before .before .before .before .refusal-of .ensures) ∙ c .before .before .enum-told .given .1)) .reply
-
-same-length-2 : tie.Need-same-length-2
-same-length-2 c = search needs
+    let side = c .before .before .before .before in
+    let a = start (side .before) .args in
+    client-ended (a .session) (a .direction) (a .to-server .now) (a .to-client .now) (free (side .before)) (side .if1 .taken) (c .before .before .end-held .ensures)
 
 returns-3 : tie.Need-returns-3
-unfolding endStep
 returns-3 c =
-    let a = c .before .before .before .before .before .before .before .before .before .before .args in
-    let s = a .session in
-    let free = by-nothing _ (sym (c .before .before .before .before .before .before .before .refusal-of .ensures) ∙ c .before .before .before .before .before .enum-told .given .1) in
-    let known = c .before .before .before .before .before .before .before .before .before .before .good .0 .1 .1 .1 .1 .1 .1 .1 .1 .0 in
-    let size : length (s .reply) ≡ mostHeld = search needs in
-    let held : s .control .server .held ≤ length (s .reply) = omega (arith, size, countable s (a .direction) free .reply) in
-    rw (server-ends s (a .direction) (a .to-server .now) (a .to-client .now) free (c .before .before .before .before .if1 .left) held)
-    (c .before .before .end-server .ensures .0, (untouched s server (endStep server (stateOf s)) _ (a .to-server .now) (c .before .before .end-server .ensures .0) .0 refl, c .before .before .end-server .ensures .1))
+    let side = c .before .before .before .before in
+    let a = start (side .before) .args in
+    server-ended (a .session) (a .direction) (a .to-server .now) (a .to-client .now) (free (side .before)) (side .if1 .left) (c .before .before .end-held2 .ensures)
 
 pub end-spec : {M : Type 1} → statement M
 end-spec =
     tie.close
     (tie.spec
-    refusal-of-requires
+    (λ c κs. search needs)
     enum-known-answer
-    refused-requires
+    (λ c κs. search needs)
     returns
     enum-told
-    end-client-requires
-    same-length
+    (λ c κs. search needs)
+    (λ c. search needs)
     returns-2
-    end-server-requires
-    same-length-2
+    (λ c κs. search needs)
+    (λ c. search needs)
     returns-3)

@@ -21,10 +21,10 @@ number-at-requires c κs =
     let low = fields-low (sideIf (start .args .from-client)) in
     omega arith
 
--- the direction, and what it holds by the number that was read
-module _ (c : tie.After-number-at) where
+-- the direction, what it holds by the number that was read, and where its line lies
+module _ (c : tie.After-line-at) where
   abbrev start : tie.Start
-  start = c .before .before .before .before .before
+  start = c .before .before .before .before .before .before
 
   abbrev image : List ℕ
   image = start .args .image .now
@@ -35,49 +35,50 @@ module _ (c : tie.After-number-at) where
   abbrev side : Side
   side = sideIf (start .args .from-client)
 
-  held-read : c .number-at .result ≡ directionOf side (controlIn image) .held
-  held-read = held-here image side (c .before .before .held-at .ensures) (c .number-at .ensures)
+  held-read : c .before .number-at .result ≡ directionOf side (controlIn image) .held
+  held-read = held-here image side (c .before .before .before .held-at .ensures) (c .before .number-at .ensures)
+
+  -- the held octets lie in the image
+  within : c .line-at .result + c .before .number-at .result ≤ imageSize
+  within =
+      let low = held-low image side (start .pre .1) held-read in
+      let first = line-low side (c .line-at .ensures) in
+      omega arith
+
+add-held : tie.Need-add-held
+add-held c = let in-image = within c in omega arith
+
+part-held-end : tie.Need-part-held-end
+part-held-end c =
+    let l = c .before in
+    let in-image = within l in
+    let long = image-long (image l) (start l .pre .0) in
+    omega arith
 
 returns : tie.Need-returns
 returns c =
-    let n = c .before .before in
-    no-room-left (image n) (out n) (start n .pre .0) (side n) (held-read n) (λ i. omega (arith, n .before .before .before .before .slice-known .given i))
-    (c .before .if1 .taken) (c .nothing-written .ensures)
-
--- the held octets lie in the image
-within : (c : tie.After-line-at) → c .line-at .result + c .before .before .number-at .result ≤ imageSize
-within c =
-    let n = c .before .before in
-    let low = held-low (image n) (side n) (start n .pre .1) (held-read n) in
-    let first = line-low (side n) (c .line-at .ensures) in
-    omega arith
-
-add-put : tie.Need-add-put
-add-put c = let in-image = within (c .before) in omega arith
-
-part-put-end : tie.Need-part-put-end
-part-put-end c =
-    let n = c .before .before .before .before in
-    let in-image = within (c .before .before) in
-    let long = image-long (image n) (start n .pre .0) in
-    omega arith
+    let m = c .before .before in
+    let l = m .before .before .before in
+    no-room-left (image l) (out l) (start l .pre .0) (side l) (held-read l) (start l .pre .1) (l .line-at .ensures)
+    (λ i. omega (arith, l .before .before .before .before .before .slice-known .given i)) (m .passed-length .ensures) (c .before .if1 .taken) (c .nothing-written .ensures)
 
 put-end-requires : tie.Need-put-end-requires
 put-end-requires c κs =
     let p = c .before .before .before in
-    let l = p .before .before .before .before in
-    let n = l .before .before in
-    let few = few-put (image n) (out n) (start n .pre .0) (side n) (held-read n) (start n .pre .1) (l .before .if1 .left) (l .line-at .ensures) (p .put .ensures .0) in
-    (start n .pre .0, few)
+    let m = p .before .before .before in
+    let l = m .before .before .before in
+    let few = few-put (image l) (out l) (start l .pre .0) (side l) (held-read l) (start l .pre .1) (l .line-at .ensures) (m .passed-length .ensures)
+    (p .before .before .if1 .left) (p .put-passed .ensures .0) in
+    (start l .pre .0, few)
 
 returns-2 : tie.Need-returns-2
 returns-2 c =
     let e = c .before .before .before in
     let p = e .before .before .before .before in
-    let l = p .before .before .before .before in
-    let n = l .before .before in
-    ended-left (image n) (out n) (start n .pre .0) (side n) (held-read n) (start n .pre .1) (l .before .if1 .left) (l .line-at .ensures)
-    (p .put .ensures .0) (p .put .ensures .1) (c .written-from .ensures) (e .put-end .ensures)
+    let m = p .before .before .before in
+    let l = m .before .before .before in
+    ended-left (image l) (out l) (start l .pre .0) (side l) (held-read l) (start l .pre .1) (l .line-at .ensures) (m .passed-length .ensures)
+    (p .before .before .if1 .left) (p .put-passed .ensures .0) (p .put-passed .ensures .1) (c .written-from .ensures) (e .put-end .ensures)
 
 pub end-held-spec : {M : Type 1} → statement M
 end-held-spec =
@@ -87,13 +88,14 @@ end-held-spec =
     number-at-requires
     (λ c. search needs)
     (λ c κs. search needs)
+    add-held
+    (λ c. search needs)
+    (λ c. search needs)
+    part-held-end
+    (λ c κs. search needs)
+    (λ c κs. search needs)
     (λ c. search needs)
     returns
-    (λ c κs. search needs)
-    add-put
-    (λ c. search needs)
-    (λ c. search needs)
-    part-put-end
     (λ c κs. search needs)
     put-end-requires
     (λ c κs. search needs)

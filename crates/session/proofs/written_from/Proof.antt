@@ -1,6 +1,6 @@
--- `image::ending::written_from` meets its contract: by the side.
-use Rattle.image.proofs.ending.written_from.Statement.{statement}
-use Rattle.image.proofs.ending.written_from.Tie as tie
+-- `session::written_from` meets its contract: by the side.
+use Rattle.session.proofs.written_from.Statement.{statement}
+use Rattle.session.proofs.written_from.Tie as tie
 
 returns : tie.Need-returns
 returns c = rw (c .if1 .taken)
