@@ -2,34 +2,48 @@
 use mathlib.Core.Path.{_≡_}
 use mathlib.Core.List.{List, [], _∷_, _++_}
 use Prim.Native.Nat.{ℕ, zero, suc, _-_}
-use lib.ListN.{replicate}
-use Rattle.rules.specs.Octets.{oct, lf}
+use lib.ListN.{length, replicate}
+use Rattle.rules.specs.Octets.{oct, lf, space}
 use Rattle.rules.specs.Answers.{mostOwed}
-use Rattle.rules.specs.Lines.{judged}
+use Rattle.rules.specs.Lines.{mostHeld}
 use Rattle.rules.specs.declared.Answer.{Answer}
 use Rattle.records.specs.declared.Session.{Session}
 use Rattle.session.specs.declared.Called.{Called}
 use Rattle.session.specs.Calls.{freshSession, arrived}
 
+-- a fresh session: its addresses are zeros, and only EPSV translation is on
 abbrev pub fresh : Session
 fresh = freshSession (replicate 16 0) (replicate 4 0) 1
 
--- octets arrive at buffers of 2,048
-abbrev pub arrive : Session → ℕ → List ℕ → Called
-arrive s d octets = arrived s d octets 2048 2048 .called
+-- the room in each buffer: enough for what one octet can write
+abbrev pub enough : ℕ
+enough = 4096
 
+-- octets arrive at buffers of that room
+abbrev pub arrive : Session → ℕ → List ℕ → Called
+arrive s d octets = arrived s d octets enough enough .called
+
+-- a text n times over
 abbrev pub times : ℕ → List ℕ → List ℕ
 times zero l = []
 times (suc n) l = l ++ times n l
 
--- 511 octets of the client's without LF, and a 512th that is not LF either
-unfoldable pub longLine : Called
-longLine = arrive (arrive fresh 0 (times (judged - 1) (oct "x")) .session) 0 (oct "x")
+-- as many octets without LF as are held of a line, the first of them given
+abbrev pub longest : List ℕ → ℕ → List ℕ
+longest first x = first ++ replicate (mostHeld - length first) x
 
--- a greeting, a reply that goes on, and 511 octets of the line that ends it; sixteen commands that are owed 504 each; that line's LF
+-- so many octets of the client's, and one more that is not LF either
+unfoldable pub longLine : Called
+longLine = arrive (arrive fresh 0 (longest [] 120) .session) 0 (oct "x")
+
+-- a greeting and a reply that goes on
+abbrev pub begun : Session
+begun = arrive fresh 1 (oct "220 hi\r\n200-\r\n") .session
+
+-- all octets but the LF of the line that ends that reply; as many commands as replies can be owed, each owed a 504; that LF
 unfoldable pub sixteenAnswers : Called
 sixteenAnswers =
-    let held = arrive fresh 1 (oct "220 hi\r\n200-\r\n200 " ++ times (judged - 5) (oct " ")) .session in
+    let held = arrive begun 1 (longest (oct "200 ") space) .session in
     let asked = arrive held 0 (times mostOwed (oct "ALGS\r\n")) .session in
     arrive asked 1 (lf ∷ [])
 

@@ -1,7 +1,7 @@
 -- Laws that the proofs of this crate's functions, and of those above it, cite.
 pub mod Going
+pub mod Runs
 mod Single
-mod Runs
 mod Parts
 mod LineEnds
 mod LentRuns
