@@ -54,7 +54,7 @@ use Rattle.steps.specs.Takes.{Took, unlessStopped, stopOf, takes}
 use Rattle.session.specs.Calls.{stateOf, fixedOf, refused, unlessRefused, outcome, arrived}
 use Rattle.session.specs.Bounds.{Shaped, WritesAtMost, OctetBound, Progress}
 use Rattle.steps.proofs.Turns.{place-owed}
-use Rattle.answers.proofs.Lengths.{isOctet, judged-most, port-line, pasv-line, passive-line, head-answers}
+use Rattle.answers.proofs.Lengths.{isOctet, judged-most, judged-held, port-line, pasv-line, passive-line, head-answers}
 use Rattle.answers.specs.Table.{Sound}
 use Rattle.answers.proofs.Refusals.{Refusal, unknown, bad, over, accepted, sound-words, refusal-of}
 use Rattle.answers.proofs.Ports.{
@@ -204,8 +204,8 @@ pub small : (s : Session) → Sound s → Small (stateOf s)
 small s w =
     record {
       owed = w .owed;
-      client = omega (arith, w .client .most, judged-most);
-      server = omega (arith, w .server .most, judged-most);
+      client = omega (arith, w .client .most, judged-held);
+      server = omega (arith, w .server .most, judged-held);
     }
 
 -- ---- one octet

@@ -11,7 +11,7 @@ use lib.ListN.{length, take, getD, length-replicate, getD-replicate}
 use borrow.Author.Tests.{ltb-true}
 use Rattle.rules.specs.Octets.{lf, every}
 use Rattle.rules.specs.Answers.{Side, client, server, sideOf, mostOwed, isQueueFull}
-use Rattle.rules.specs.Lines.{judged}
+use Rattle.rules.specs.Lines.{mostHeld, judged}
 use Rattle.rules.specs.declared.Switches.{Switches}
 use Rattle.rules.specs.declared.Answer.{Answer}
 use Rattle.places.specs.declared.Place.{Place}
@@ -50,7 +50,7 @@ use Rattle.answers.specs.Table.{
   Takes,
   One,
 }
-use Rattle.answers.proofs.Lengths.{judged-most}
+use Rattle.answers.proofs.Lengths.{judged-held}
 use Rattle.answers.proofs.Bounds.{Small, octet-most}
 use Rattle.answers.proofs.Refusals.{
   not-holding,
@@ -79,7 +79,7 @@ none-held : (p : Place) → SoundDirection (record { place = p; held = 0 })
 none-held p = record { most = omega arith; none = λ q. refl }
 
 one-more : (n : ℕ) → n + 1 < judged → SoundDirection (record { place = Place.Holding; held = n + 1 })
-one-more n h = record { most = omega arith; none = λ q. absurd (q refl) }
+one-more n h = record { most = omega (arith, judged-held); none = λ q. absurd (q refl) }
 
 place-sound : (address : List ℕ) (supported : Bool) (sw : Switches) (p : Place) (n : ℕ) (h : List ℕ) (b : Bool)
     → ClientSound (placeEffect address supported sw p n h b)
@@ -121,8 +121,8 @@ pub record Kept (s : State) : Type 0 where
   pub queue : Listed (s .kinds) (s .control .owed)
   pub client : SoundDirection (s .control .client)
   pub server : SoundDirection (s .control .server)
-  pub command : length (s .command) ≡ judged - 1
-  pub reply : length (s .reply) ≡ judged - 1
+  pub command : length (s .command) ≡ mostHeld
+  pub reply : length (s .reply) ≡ mostHeld
 
 settled-kept : (s : State) (n : ℕ) → Kept s → Kept (settledState s n)
 unfolding settledState
@@ -213,8 +213,8 @@ small : (s : State) → Kept s → Small s
 small s h =
     record {
       owed = h .queue .most;
-      client = omega (arith, h .client .most, judged-most);
-      server = omega (arith, h .server .most, judged-most);
+      client = omega (arith, h .client .most, judged-held);
+      server = omega (arith, h .server .most, judged-held);
     }
 
 module _ (c : Situation) (octets : List ℕ) (shape : Shaped (c .session)) where
@@ -306,8 +306,8 @@ fresh-kept address mapped flags size octets = (
   record {
     mapped = size;
     octets = octets;
-    command = length-replicate (judged - 1) 0;
-    reply = length-replicate (judged - 1) 0;
+    command = length-replicate {A = ℕ} mostHeld 0;
+    reply = length-replicate {A = ℕ} mostHeld 0;
     kinds = length-replicate {A = ℕ} mostOwed 0;
   },
   record {

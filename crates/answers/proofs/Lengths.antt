@@ -2,13 +2,13 @@
 use mathlib.Core.Path.{_≡_, refl}
 use mathlib.Core.Bool.{Bool, true}
 use mathlib.Core.List.{List, [], _∷_}
-use Prim.Native.Nat.{ℕ, zero, suc, _*_, _≤_, _<_}
+use Prim.Native.Nat.{ℕ, zero, suc, _+_, _*_, _≤_, _<_}
 use native.Mathlib.Omega.{arith}
 use lib.Dec.{leb, lit≤}
 use lib.ListN.{length, getD, length-append}
 use borrow.Author.Tests.{leb-true, le-leb}
 use Rattle.rules.specs.Octets.{every}
-use Rattle.rules.specs.Lines.{judged}
+use Rattle.rules.specs.Lines.{judged, mostHeld}
 use Rattle.rules.specs.Commands.{portLine, pasvLine}
 use Rattle.rules.specs.Replies.{extendedPassiveLine, headAnswers}
 use Rattle.rules.specs.declared.Kind.{Kind}
@@ -17,10 +17,14 @@ use Rattle.octets.proofs.Ranges.{and-both}
 use Rattle.own.proofs.Lengths.{answer-most}
 use Rattle.writers.proofs.Lines.{port-most, extended-passive-most}
 
--- all that is used of the judged length
+-- all that is used of the judged length: it has room for the lines that the gateway makes, and is one more than is held
 pub judged-most : 64 ≤ judged
 unfolding judged
 judged-most = lit≤ tt
+
+pub judged-held : judged ≡ mostHeld + 1
+unfolding judged
+judged-held = refl
 
 -- ---- octets
 

@@ -11,7 +11,7 @@ use lib.ListN.{take, getD}
 use borrow.Author.Tests.{leb-true, leb-false, le-leb, eqb-true, eq-eqb}
 use Rattle.rules.specs.Octets.{choose, every}
 use Rattle.rules.specs.Answers.{sideOf, mostOwed, soundHeld, soundRecord}
-use Rattle.rules.specs.Lines.{judged}
+use Rattle.rules.specs.Lines.{mostHeld}
 use Rattle.rules.specs.declared.Answer.{Answer}
 use Rattle.places.specs.declared.Place.{Place}
 use Rattle.places.specs.declared.Direction.{Direction}
@@ -31,8 +31,8 @@ not-holding p e q = true≢false (sym (ap isHolding q) ∙ e)
 direction-words : (d : Direction) (b : Bool) → isHolding (d .place) ≡ b → (soundHeld b (d .held) ≡ true) ↔ SoundDirection d
 unfolding soundHeld choose
 direction-words d true p = (
-  (λ e. record { most = leb-true (d .held) (judged - 1) e; none = λ q. absurd (q (place-holding (d .place) p)) }),
-  (λ w. le-leb (d .held) (judged - 1) (w .most)),
+  (λ e. record { most = leb-true (d .held) mostHeld e; none = λ q. absurd (q (place-holding (d .place) p)) }),
+  (λ w. le-leb (d .held) mostHeld (w .most)),
 )
 direction-words d false p = (
   (λ e. let z : d .held ≡ 0 = eqb-true (d .held) 0 e in record { most = omega arith; none = λ q. z }),

@@ -6,7 +6,7 @@ use mathlib.Core.Logic.{_≢_, _⊎_}
 use Prim.Native.Nat.{ℕ, _-_, _^_, _≤_, _<_}
 use lib.ListN.{length, take, getD}
 use Rattle.rules.specs.Answers.{Side, client, server, sideOf, answerNumber, mostOwed}
-use Rattle.rules.specs.Lines.{judged, passed}
+use Rattle.rules.specs.Lines.{mostHeld, passed}
 use Rattle.rules.specs.Setup.{eprtOn, eprtSupported}
 use Rattle.queue.specs.Kinds.{lastCode}
 use Rattle.places.specs.declared.Place.{Place}
@@ -26,9 +26,11 @@ pub record Situation : Type 0 where
   pub serverRoom : ℕ
   pub clientRoom : ℕ
 
+-- an arrival of octets in a situation
 abbrev pub arrivedAt : Situation → List ℕ → Outcome
 arrivedAt c octets = arrived (c .session) (c .direction) octets (c .serverRoom) (c .clientRoom)
 
+-- an end in a situation
 abbrev pub endedAt : Situation → Outcome
 endedAt c = endCalled (c .session) (c .direction) (c .serverRoom) (c .clientRoom)
 
@@ -47,12 +49,13 @@ numberOf o = answerNumber (o .called .answer)
 abbrev pub Unknown : ℕ → Type 0
 Unknown d = (d ≢ 0) × (d ≢ 1)
 
+-- not 3: "a direction (0 client, 1 server)"
 abbrev pub Known : ℕ → Type 0
 Known d = (d ≡ 0) ⊎ (d ≡ 1)
 
 -- not 4: not "over 511 octets held, or octets held where the line already flows, the direction has ended or its octets pass at once"
 pub record SoundDirection (d : Direction) : Type 0 where
-  pub most : d .held ≤ judged - 1
+  pub most : d .held ≤ mostHeld
   pub none : d .place ≢ Place.Holding → d .held ≡ 0
 
 -- not 4: not "record not live, over 16 owed, an owed kind not listed here", nor octets held as above; kinds have the numbers from 0 to the last
@@ -134,6 +137,7 @@ module _ (c : Situation) (octets : List ℕ) where
     pub more : k < length octets
     pub reason : why
 
+  -- 1, before octet k
   abbrev pub One : ℕ → Type 0
   One k = StopsAt k (Full k)
 
@@ -155,6 +159,7 @@ module _ (c : Situation) (octets : List ℕ) where
 abbrev pub heldOctets : Side → Session → List ℕ
 heldOctets d s = passed (heldOf d (stateOf s))
 
+-- that room: the client's octets go to the server, and the server's to the client
 abbrev pub roomFor : Side → Situation → ℕ
 roomFor client c = c .serverRoom
 roomFor server c = c .clientRoom
@@ -168,6 +173,7 @@ abbrev pub onward : Side → Outcome → List ℕ
 onward client o = o .toServer
 onward server o = o .toClient
 
+-- what goes to the one that it comes from
 abbrev pub back : Side → Outcome → List ℕ
 back client o = o .toClient
 back server o = o .toServer

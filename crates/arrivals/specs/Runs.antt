@@ -27,6 +27,7 @@ abbrev pub toServerOf : Side → List ℕ → List ℕ
 toServerOf client xs = xs
 toServerOf server xs = []
 
+-- what goes to the client: only the server's octets do
 abbrev pub toClientOf : Side → List ℕ → List ℕ
 toClientOf client xs = []
 toClientOf server xs = xs
@@ -40,6 +41,7 @@ lineOf server s = s .reply
 abbrev pub withCommand : State → Direction → List ℕ → State
 withCommand s d line = stateFrom (withClient (s .control) (s .control .switches) d (s .control .owed)) line (s .reply) (s .kinds)
 
+-- the same of the server's
 abbrev pub withReply : State → Direction → List ℕ → State
 withReply s d line = stateFrom (withServer (s .control) d (s .control .owed) (s .control .unfinished)) (s .command) line (s .kinds)
 
@@ -83,6 +85,7 @@ ClientRan kinds l i c command out w c′ command′ out′ w′ j =
     → Ran f client l (coreFrom (stateFrom c command reply kinds) out toClient w) i
     (coreFrom (stateFrom c′ command′ reply kinds) out′ toClient w′) j
 
+-- a run of the server's octets, which leaves the client's array and the server's buffer alone
 abbrev pub ServerRan : List ℕ → List ℕ → ℕ → Control → List ℕ → List ℕ → Written → Control → List ℕ → List ℕ
     → Written → ℕ → Type 0
 ServerRan kinds l i c reply out w c′ reply′ out′ w′ j =

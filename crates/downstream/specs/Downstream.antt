@@ -17,6 +17,7 @@ use Rattle.queue.specs.declared.Owes.{Owes}
 use Rattle.downstream.specs.declared.ServerEffect.{ServerEffect}
 use Rattle.places.specs.Places.{at}
 
+-- the effect of a server octet, by its parts
 abbrev pub serverEffectOf : Gives → Direction → ℕ → Bool → ServerEffect
 serverEffectOf g d n u = record { gives = g; direction = d; removes = n; unfinished = u }
 
@@ -27,6 +28,7 @@ kindRemoved Kind.TranslatedEpsv = 1
 kindRemoved (Kind.Own a) = 0
 kindRemoved Kind.Auth = 1
 
+-- the same of the first kind owed: none is removed where "none is owed"
 unfoldable pub headRemoved : Owes → ℕ
 headRemoved Owes.Nothing = 0
 headRemoved (Owes.One k) = kindRemoved k
@@ -37,6 +39,7 @@ lineRemoves ReplyLine.GoesOn o = 0
 lineRemoves ReplyLine.Preliminary o = 0
 lineRemoves ReplyLine.Final o = headRemoved o
 
+-- "the line becomes `229 Entering Extended Passive Mode (|||port|)`. Otherwise it passes"
 unfoldable pub passiveEffect : PassiveReply → Gives
 passiveEffect (PassiveReply.Port p) = Gives.ExtendedPassive p
 passiveEffect PassiveReply.Unreadable = Gives.HeldAndOctet
@@ -48,6 +51,7 @@ kindEffect Kind.TranslatedEpsv c = passiveEffect (passiveReply c)
 kindEffect (Kind.Own a) c = Gives.HeldAndOctet
 kindEffect Kind.Auth c = Gives.HeldAndOctet
 
+-- the same of the first kind owed: where there is none, the line passes
 unfoldable pub headEffect : Owes → List ℕ → Gives
 headEffect Owes.Nothing c = Gives.HeldAndOctet
 headEffect (Owes.One k) c = kindEffect k c

@@ -25,9 +25,11 @@ hexGlyph n = choose (ltb n 10) (48 + n) (87 + n)
 unfoldable pub standsAsItself : ℕ → Bool
 standsAsItself x = within 33 126 x && not (eqb x 45) && not (eqb x 92)
 
+-- an octet in a field: itself, or "`\` and two lower-case hex digits"
 unfoldable pub shown : ℕ → List ℕ
 shown x = choose (standsAsItself x) (x ∷ []) (92 ∷ hexGlyph (x / 16) ∷ hexGlyph (x % 16) ∷ [])
 
+-- octets in a field, one behind the other
 unfoldable pub shownAll : List ℕ → List ℕ
 shownAll [] = []
 shownAll (x ∷ xs) = shown x ++ shownAll xs
@@ -46,6 +48,7 @@ pub record Done : Type 0 where
   pub toClient : List ℕ
   pub session : Session
 
+-- what an arrival or an end did
 abbrev pub doneBy : Outcome → Done
 doneBy o =
     record {
@@ -56,6 +59,7 @@ doneBy o =
       session = o .called .session;
     }
 
+-- what a setup did, by its body: "the client's IPv6 address .., its mapped IPv4 address .. and a flag octet"
 unfoldable pub setUp : List ℕ → Done
 setUp body =
     let p = prepared (take 16 body) (take 4 (drop 16 body)) (getD body 20 0) in
@@ -96,11 +100,13 @@ acceptedReport file = headerLine (count file) ++ entryLines deadSession 0 (table
 unfoldable pub refusedLine : ℕ → List ℕ
 refusedLine number = oct "REFUSED " ++ (decimal number ++ (lf ∷ []))
 
+-- the single line of a refusal, or the report of a file that is not refused
 unfoldable pub reportBy : Verdict → List ℕ → List ℕ
 reportBy Verdict.WrongLength file = refusedLine (verdictNumber Verdict.WrongLength)
 reportBy Verdict.WrongTable file = refusedLine (verdictNumber Verdict.WrongTable)
 reportBy Verdict.Accepted file = acceptedReport file
 
+-- what the replay writes for a file
 unfoldable pub report : List ℕ → List ℕ
 report file = reportBy (verdict file) file
 

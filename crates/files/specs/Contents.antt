@@ -18,6 +18,7 @@ pub record Entry : Type 0 where
   pub zero : ℕ
   pub length : ℕ
 
+-- the entry at the front of a table
 unfoldable pub entryOf : List ℕ → Entry
 entryOf t = record { kind = getD t 0 0; zero = getD t 1 0; length = pairAt t 2 }
 
@@ -34,9 +35,11 @@ count file = pairAt file 0
 unfoldable pub tableEnd : List ℕ → ℕ
 tableEnd file = 2 + 4 * count file
 
+-- a file's "table of contents": as many entries as the count says
 unfoldable pub tableOf : List ℕ → List Entry
 tableOf file = entries (count file) (drop 2 file)
 
+-- "Kinds: .. 4 setup"
 abbrev pub isSetup : ℕ → Bool
 isSetup kind = eqb kind 4
 
@@ -47,9 +50,11 @@ goodLength kind n =
     (choose (leb kind 3) (eqb n 0)
     (isSetup kind && eqb n 21))
 
+-- not "kind, .. zero octet or length wrong"
 unfoldable pub goodEntry : Entry → Bool
 goodEntry e = eqb (e .zero) 0 && goodLength (e .kind) (e .length)
 
+-- entries behind the first: each is good, and none is a setup
 unfoldable pub noSetups : List Entry → Bool
 noSetups [] = true
 noSetups (e ∷ es) = not (isSetup (e .kind)) && goodEntry e && noSetups es

@@ -10,7 +10,7 @@ use lib.Seq.{take-at}
 use borrow.Author.Tests.{le-leb}
 use Rattle.rules.specs.Octets.{choose}
 use Rattle.rules.specs.Answers.{Side, client, server, soundHeld, soundRecord, mostOwed}
-use Rattle.rules.specs.Lines.{judged}
+use Rattle.rules.specs.Lines.{judged, mostHeld}
 use Rattle.rules.specs.Setup.{Setup, setupSwitches}
 use Rattle.rules.specs.Edition.{LineRules, document01}
 use Rattle.rules.specs.History.{Item, textOf, hasEnded, takenFrom}
@@ -170,8 +170,8 @@ demand3 su r z l fresh calls =
 -- ---- every record that calls return is one that number 4 does not refuse
 
 stands-sound : {Kept : List ℕ → List ℕ → Type 0} {p : Place} {n : ℕ} {line : List ℕ} {q : Reading} → Stands Kept p n line q → soundHeld (isHolding p) n ≡ true
-unfolding soundHeld choose
-stands-sound (holding {n = n} h) = le-leb n (judged - 1) (omega arith)
+unfolding soundHeld choose judged
+stands-sound (holding {n = n} h) = le-leb n mostHeld (omega arith)
 stands-sound (flowing k g) = refl
 stands-sound passing = refl
 stands-sound ended = refl

@@ -6,7 +6,7 @@ use Prim.Native.Nat.{ℕ, _-_}
 use native.Mathlib.Omega.{arith}
 use lib.ListN.{drop, length-replicate}
 use Rattle.rules.specs.Octets.{lf, choose}
-use Rattle.rules.specs.Lines.{judged, content}
+use Rattle.rules.specs.Lines.{judged, mostHeld, content}
 use Rattle.rules.specs.Setup.{Setup, eprtSupported, setupSwitches, badFlags, setupAnswer}
 use Rattle.rules.specs.Answers.{answerNumber}
 use Rattle.rules.specs.Commands.{command, commandGives}
@@ -102,7 +102,7 @@ fresh-is su r h = h .session ∙ rw (good-flags (badFlags (su .flags)) (h .answe
 
 pub fresh-stays : (su : Setup)
     → Stays (agrees su) (freshSession (su .client) (su .mapped) (su .flags)) (freshClient (setupSwitches (su .flags))) freshServer
-unfolding freshSession agrees
+unfolding freshSession agrees judged
 fresh-stays su =
     record {
       live = refl;
@@ -111,8 +111,8 @@ fresh-stays su =
         tied = refl;
         client = begins _;
         server = begins _;
-        command = length-replicate (judged - 1) 0;
-        reply = length-replicate (judged - 1) 0;
+        command = length-replicate {A = ℕ} mostHeld 0;
+        reply = length-replicate {A = ℕ} mostHeld 0;
         queue = queue-fresh;
         unfinished = refl;
       };

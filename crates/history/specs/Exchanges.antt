@@ -22,11 +22,12 @@ HoldsOf e =
     (l : List (Made gateway)) → FromFresh gateway allOn l → historyOf gateway l ≡ serverSays greeting ++ e .said
     → (goneToServer gateway l ≡ printed e .toServer) × (goneToClient gateway l ≡ printed e .toClient)
 
+-- it is so of each exchange in a list
 abbrev pub EachHolds : List Exchange → Type 0
 EachHolds [] = Unit {0}
 EachHolds (e ∷ es) = HoldsOf e × EachHolds es
 
--- ---- the short ones computed: there are such calls
+-- ---- the short ones computed: of these there are such calls
 
 -- exchanges of few octets; what a long line gives is not computed octet by octet
 unfoldable pub shortOnes : List Exchange → List Exchange
@@ -44,12 +45,13 @@ singly [] = []
 singly (octet d x ∷ is) = says d (x ∷ []) ∷ singly is
 singly (end d ∷ is) = ends d ∷ singly is
 
--- a history with an arrival for all octets that a side says in a row
+-- an octet before pieces: into the first one, if that is octets of the same side, or else in a piece of its own
 unfoldable pub ontoPiece : Side → ℕ → List Piece → List Piece
 ontoPiece d x [] = says d (x ∷ []) ∷ []
 ontoPiece d x (says e xs ∷ ps) = choose (sameSide d e) (says d (x ∷ xs) ∷ ps) (says d (x ∷ []) ∷ says e xs ∷ ps)
 ontoPiece d x (ends e ∷ ps) = says d (x ∷ []) ∷ ends e ∷ ps
 
+-- a history with an arrival for all octets that a side says in a row
 unfoldable pub wholly : List Item → List Piece
 wholly [] = []
 wholly (octet d x ∷ is) = ontoPiece d x (wholly is)
@@ -59,6 +61,7 @@ wholly (end d ∷ is) = ends d ∷ wholly is
 abbrev pub room : ℕ
 room = 2000
 
+-- what a piece does to a record: an arrival, or an end
 unfoldable pub saidOutcome : Session → Piece → Outcome
 saidOutcome r (says d xs) = arrived r (directionNumber d) xs room room
 saidOutcome r (ends d) = endCalled r (directionNumber d) room room
@@ -81,6 +84,7 @@ calledAs cut e =
 unfoldable pub calledBoth : Exchange → Exchange × Exchange
 calledBoth e = (calledAs singly e, calledAs wholly e)
 
+-- what the table has, for each of the two ways
 unfoldable pub printedBoth : Exchange → Exchange × Exchange
 printedBoth e = (printed e, printed e)
 

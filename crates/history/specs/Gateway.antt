@@ -45,6 +45,7 @@ pub record Promise (r : Session) (c : Call) (t : Return Session) : Type 0 where
   pub serverBuffer : t .serverBuffer ≡ outcomeOf r c .toServer ++ drop (t .toServer) (lentServer c)
   pub clientBuffer : t .clientBuffer ≡ outcomeOf r c .toClient ++ drop (t .toClient) (lentClient c)
 
+-- "a direction (0 client, 1 server)"
 abbrev pub directionNumber : Side → ℕ
 directionNumber client = 0
 directionNumber server = 1
@@ -54,6 +55,7 @@ abbrev pub returnedOffset : DirectionOffset → ℕ
 returnedOffset (DirectionOffset.Is n) = n
 returnedOffset DirectionOffset.UnknownDirection = 0
 
+-- the session as a gateway: these, and its offsets
 abbrev pub gateway : Gateway
 gateway =
     record {

@@ -8,7 +8,7 @@ use lib.ListN.{length, take, drop, set, getD, length-append}
 use lib.Seq.{take-append-le, drop-append-le}
 use Rattle.rules.specs.Octets.{choose}
 use Rattle.rules.specs.Answers.{Side, client, server, wrapped}
-use Rattle.records.specs.Layout.{imageSize}
+use Rattle.records.specs.Layout.{owedAt, serverHeldAt, upTakenAt, upWrittenAt, downTakenAt, downWrittenAt, imageSize}
 use Rattle.output.specs.Buffer.{putAt}
 use Rattle.output.proofs.Placing.{put-fits, length-put, one-put}
 use Rattle.output.proofs.Front.{front-put}
@@ -39,7 +39,7 @@ over-front l t i x room there =
     (simp append-assoc)
     ∙ (ap (λ (n : ℕ). over t i x ++ drop n l) (sym size) ∙ sym (front-put l (over t i x) (omega arith)))))
 
--- memory l′ is l with a text of 1,093 octets at its front
+-- memory l′ is l with a text as long as an image at its front
 record Fronted (l l′ t : List ℕ) : Type 0 where
   here : l′ ≡ putAt l 0 t
   size : length t ≡ imageSize
@@ -56,7 +56,7 @@ stored l room {l′} {t} f i x there =
 -- ---- the three fields that an end changes
 
 -- they lie among the marks and numbers
-pub fields-low : (d : Side) → (placeAt d < 7) × (heldAt d ≤ 15) × (writtenAt d ≤ 31)
+pub fields-low : (d : Side) → (placeAt d < owedAt) × (heldAt d ≤ serverHeldAt) × (writtenAt d ≤ downWrittenAt)
 fields-low client = (omega arith, omega arith, omega arith)
 fields-low server = (omega arith, omega arith, omega arith)
 
@@ -66,8 +66,8 @@ module _ (image : List ℕ) (ok : isImage image ≡ true) (octets : (i : ℕ) �
       → over (over (over (imageOf (fieldsIn image)) (placeAt d) (3 ∷ [])) (heldAt d) (fourOctets 0)) (writtenAt d) (fourOctets (wrapped (countAt image (writtenAt d) + n)))
       ≡ imageOf (endedWith (fieldsIn image) d n)
   unfolding imageOf marksOf numbersOf arraysOf fourOctets capped choose placeNumber fieldsIn controlIn countsAt sessionAfter endStep
-  end-over client n = rw (count-kept image ok octets 19, count-kept image ok octets 27, count-kept image ok octets 31)
-  end-over server n = rw (count-kept image ok octets 19, count-kept image ok octets 23, count-kept image ok octets 27)
+  end-over client n = rw (count-kept image ok octets upTakenAt, count-kept image ok octets downTakenAt, count-kept image ok octets downWrittenAt)
+  end-over server n = rw (count-kept image ok octets upTakenAt, count-kept image ok octets upWrittenAt, count-kept image ok octets downTakenAt)
 
   -- and in memory, where the code stores them
   pub end-stored : (d : Side) (n : ℕ) {place count sum before more : ℕ} {counted summed : List ℕ} → place ≡ placeAt d → count ≡ heldAt d

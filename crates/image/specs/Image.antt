@@ -19,10 +19,12 @@ use Rattle.records.specs.Sound.{sound}
 
 -- ---- values as octets
 
+-- yes is 1, no is 0
 unfoldable pub markOf : Bool → ℕ
 markOf false = 0
 markOf true = 1
 
+-- a place in one octet
 unfoldable pub placeNumber : Place → ℕ
 placeNumber Place.Holding = 0
 placeNumber Place.Flowing = 1
@@ -49,6 +51,7 @@ marksIn c =
 abbrev pub marksFrom : Bool → Bool → Control → List ℕ
 marksFrom live supported c = markOf live ∷ markOf supported ∷ marksIn c
 
+-- all marks of a record
 unfoldable pub marksOf : Session → List ℕ
 marksOf s = marksFrom (s .live) (s .supported) (s .control)
 
@@ -67,20 +70,25 @@ numbersBy owed command reply up down =
 abbrev pub numbersFrom : Control → Counts → Counts → List ℕ
 numbersFrom c up down = numbersBy (capped (c .owed)) (capped (c .client .held)) (capped (c .server .held)) up down
 
+-- all numbers of a record
 unfoldable pub numbersOf : Session → List ℕ
 numbersOf s = numbersFrom (s .control) (s .up) (s .down)
 
+-- the addresses, the kinds and both lines
 unfoldable pub arraysOf : Session → List ℕ
 arraysOf s = s .client ++ (s .mapped ++ (s .kinds ++ (s .command ++ s .reply)))
 
+-- the whole image: marks, numbers, arrays
 unfoldable pub imageOf : Session → List ℕ
 imageOf s = marksOf s ++ (numbersOf s ++ arraysOf s)
 
 -- ---- the record of an image
 
+-- a mark that says yes
 abbrev pub isSet : List ℕ → ℕ → Bool
 isSet image i = eqb (getD image i 0) 1
 
+-- the place of a number
 unfoldable pub placeOf : ℕ → Place
 placeOf zero = Place.Holding
 placeOf (suc zero) = Place.Flowing
@@ -96,9 +104,11 @@ countAt image i =
 abbrev pub part : List ℕ → ℕ → ℕ → List ℕ
 part image i n = take n (drop i image)
 
+-- octets taken, and behind them octets written
 unfoldable pub countsAt : List ℕ → ℕ → Counts
 countsAt image i = record { taken = countAt image i; written = countAt image (i + numberWidth) }
 
+-- the fields that calls can change, but for the arrays
 unfoldable pub controlIn : List ℕ → Control
 controlIn image =
     record {
@@ -109,6 +119,7 @@ controlIn image =
       unfinished = isSet image unfinishedAt;
     }
 
+-- all fields
 unfoldable pub fieldsIn : List ℕ → Session
 fieldsIn image =
     record {
@@ -124,6 +135,7 @@ fieldsIn image =
       down = countsAt image downTakenAt;
     }
 
+-- no octet is larger
 unfoldable pub atMost : ℕ → List ℕ → Bool
 atMost most octets = every (λ n. leb n most) octets
 

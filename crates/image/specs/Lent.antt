@@ -19,6 +19,7 @@ unfoldable pub arrivedOn : List ℕ → ℕ → List ℕ → List ℕ → List �
 arrivedOn image direction octets toServer toClient =
     arrived (sessionOf image) direction octets (length toServer) (length toClient)
 
+-- an end on the record of an image
 unfoldable pub endedOn : List ℕ → ℕ → List ℕ → List ℕ → Outcome
 endedOn image direction toServer toClient = endCalled (sessionOf image) direction (length toServer) (length toClient)
 
@@ -30,6 +31,7 @@ imageAfter image k = choose (leb 3 (answerNumber (k .answer))) image (putAt imag
 unfoldable pub serverAfter : Outcome → List ℕ → List ℕ
 serverAfter o out = bufferAfter client o out
 
+-- the same of the buffer for the client
 unfoldable pub clientAfter : Outcome → List ℕ → List ℕ
 clientAfter o out = bufferAfter server o out
 

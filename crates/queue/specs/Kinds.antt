@@ -9,12 +9,14 @@ use Rattle.rules.specs.declared.OwnAnswer.{OwnAnswer}
 use Rattle.rules.specs.declared.Kind.{Kind}
 use Rattle.queue.specs.declared.Owes.{Owes}
 
+-- the numbers of "four of 216": by whether EPSV is on, and whether EPRT is
 unfoldable pub stateCode : Bool → Bool → ℕ
 stateCode false false = 4
 stateCode true false = 5
 stateCode false true = 6
 stateCode true true = 7
 
+-- the number of "an answer of the gateway's own (522, 504, four of 216)"
 unfoldable pub answerCode : OwnAnswer → ℕ
 answerCode OwnAnswer.ProtocolNotSupported = 2
 answerCode OwnAnswer.ParameterNotImplemented = 3
@@ -24,6 +26,7 @@ answerCode (OwnAnswer.State sw) = stateCode (sw .epsv) (sw .eprt)
 abbrev pub authCode : ℕ
 authCode = 8
 
+-- the last number that a kind has
 abbrev pub lastCode : ℕ
 lastCode = authCode
 
@@ -38,6 +41,7 @@ codeOf Kind.Auth = authCode
 unfoldable pub isListed : ℕ → Bool
 isListed n = leb n lastCode
 
+-- the kind of a 216 that tells this state of EPSV and EPRT
 abbrev pub stateKind : Bool → Bool → Kind
 stateKind epsv eprt = Kind.Own (OwnAnswer.State (record { epsv = epsv; eprt = eprt }))
 
@@ -57,6 +61,7 @@ kindOf n =
 unfoldable pub queueOf : List ℕ → ℕ → List Kind
 queueOf kinds owed = map kindOf (take owed kinds)
 
+-- the first kind owed, if one is
 unfoldable pub headOf : List ℕ → ℕ → Owes
 headOf kinds owed = choose (eqb owed 0) Owes.Nothing (Owes.One (kindOf (getD kinds 0 0)))
 

@@ -7,7 +7,7 @@ use Prim.Native.Nat.{ℕ, _-_, _≤_}
 use lib.Dec.{leb}
 use lib.ListN.{take}
 use Rattle.rules.specs.Octets.{every}
-use Rattle.rules.specs.Lines.{judged, mostHeld}
+use Rattle.rules.specs.Lines.{mostHeld}
 use Rattle.rules.specs.Answers.{Side, client, server, sideOf, mostOwed, soundHeld, soundRecord, refusal}
 use Rattle.rules.specs.declared.Answer.{Answer}
 use Rattle.queue.specs.Kinds.{isListed}
@@ -17,7 +17,7 @@ use Rattle.records.specs.declared.Session.{Session}
 use Rattle.records.specs.declared.Refusal.{Refusal}
 use Rattle.places.specs.Places.{isHolding, isEnded, isFlowingOrEnded}
 
--- "over 511 octets held, or octets held where the line already flows, the direction has ended or its octets pass at once"
+-- not "over 511 octets held, or octets held where the line already flows, the direction has ended or its octets pass at once"
 unfoldable pub soundDirection : Direction → Bool
 soundDirection d = soundHeld (isHolding (d .place)) (d .held)
 
@@ -26,6 +26,7 @@ abbrev pub soundOf : Bool → Control → List ℕ → Bool
 soundOf live c kinds =
     soundRecord live (c .owed) (every isListed (take (c .owed) kinds)) (soundDirection (c .client)) (soundDirection (c .server))
 
+-- number 4 is not given for a record
 unfoldable pub sound : Session → Bool
 sound s = soundOf (s .live) (s .control) (s .kinds)
 
@@ -38,6 +39,7 @@ directionOf server c = c .server
 abbrev pub refusalOn : Bool → Control → List ℕ → ℕ → Option Answer
 refusalOn live c kinds d = refusal d (soundOf live c kinds) (isEnded (directionOf (sideOf d) c .place))
 
+-- the same of a record
 unfoldable pub refusalOf : Session → ℕ → Option Answer
 refusalOf s d = refusal d (sound s) (isEnded (directionOf (sideOf d) (s .control) .place))
 
@@ -50,7 +52,7 @@ refusalBy (some a) = Refusal.By a
 
 -- a record's arrays can hold these counts; number 4 refuses a record of others
 unfoldable pub holdable : Control → Bool
-holdable c = leb (c .owed) mostOwed && leb (c .client .held) (judged - 1) && leb (c .server .held) (judged - 1)
+holdable c = leb (c .owed) mostOwed && leb (c .client .held) mostHeld && leb (c .server .held) mostHeld
 
 -- the same as a fact
 pub record Counted (c : Control) : Type 0 where

@@ -35,11 +35,13 @@ setupNumber image p = choose (leb imageSize (length image)) (answerNumber (p .an
 abbrev pub countsFrom : ℕ → Written → List ℕ → List ℕ
 countsFrom taken w counts = choose (leb 3 (length counts)) (taken ∷ w .server ∷ w .client ∷ drop 3 counts) counts
 
+-- the same of what a call returned
 unfoldable pub countsAfter : Called → List ℕ → List ℕ
 countsAfter k counts = countsFrom (k .taken) (k .written) counts
 
 -- ---- offset
 
+-- the number that a host is told: number 3 where the direction has no offset
 unfoldable pub offsetNumber : DirectionOffset → ℕ
 offsetNumber (DirectionOffset.Is n) = answerNumber Answer.Done
 offsetNumber DirectionOffset.UnknownDirection = answerNumber Answer.UnknownDirection

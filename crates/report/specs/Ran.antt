@@ -15,5 +15,6 @@ ranBy d =
       session = d .session;
     }
 
+-- the same of what a call returned
 unfoldable pub ranOf : Called → EntryRan
 ranOf c = record { taken = c .taken; answer = answerNumber (c .answer); written = c .written; session = c .session }

@@ -29,6 +29,7 @@ firstTextBy Verdict.WrongLength file = refusedLine (verdictNumber Verdict.WrongL
 firstTextBy Verdict.WrongTable file = refusedLine (verdictNumber Verdict.WrongTable)
 firstTextBy Verdict.Accepted file = headerLine (count file)
 
+-- the text of a file's first part
 unfoldable pub firstText : List ℕ → List ℕ
 firstText file = firstTextBy (verdict file) file
 
@@ -43,9 +44,11 @@ firstReplayBy Verdict.WrongTable file = noReplay
 firstReplayBy Verdict.Accepted file =
     record { session = deadSession; number = 0; body = tableEnd file; left = count file }
 
+-- where the replay of a file stands after its first part
 unfoldable pub firstReplay : List ℕ → Replay
 firstReplay file = firstReplayBy (verdict file) file
 
+-- the first part of a file, by the room in the buffer; where its text has none, no entry is left
 unfoldable pub firstPart : List ℕ → ℕ → Part
 firstPart file room = partOf (firstText file) room noReplay (firstReplay file)
 
@@ -55,6 +58,7 @@ firstPart file room = partOf (firstText file) room noReplay (firstReplay file)
 abbrev pub entryAt : List ℕ → Replay → Entry
 entryAt file r = entryOf (drop (2 + 4 * r .number) file)
 
+-- a file of this verdict is not refused
 unfoldable pub isAccepted : Verdict → Bool
 isAccepted Verdict.WrongLength = false
 isAccepted Verdict.WrongTable = false
@@ -66,6 +70,7 @@ isDue file r =
     not (eqb (r .left) 0) && isAccepted (verdict file) && ltb (r .number) (count file)
     && leb (r .body + entryAt file r .length) (length file)
 
+-- what the entry does at which the replay stands
 unfoldable pub doneAt : List ℕ → Replay → Done
 doneAt file r = runEntry (r .session) (entryAt file r .kind) (take (entryAt file r .length) (drop (r .body) file))
 
@@ -73,9 +78,11 @@ doneAt file r = runEntry (r .session) (entryAt file r .kind) (take (entryAt file
 unfoldable pub entryText : ℕ → Done → List ℕ
 entryText n d = entryLine n d ++ choose (eqb (d .number) 0) [] (oct "STOPPED\n")
 
+-- the text of that entry's part: nothing where none is due
 unfoldable pub nextText : List ℕ → Replay → List ℕ
 nextText file r = choose (isDue file r) (entryText (r .number) (doneAt file r)) []
 
+-- the entries left after one: "After an answer other than 0 .. no more"
 unfoldable pub leftAfter : ℕ → ℕ → ℕ
 leftAfter answer left = choose (eqb answer 0) (left - 1) 0
 
@@ -90,6 +97,7 @@ nextReplay file r =
       left = leftAfter (d .number) (r .left);
     }
 
+-- the part of that entry, by the room in the buffer; where none is due, the replay is over
 unfoldable pub nextPart : List ℕ → Replay → ℕ → Part
 nextPart file r room =
     choose (isDue file r) (partOf (nextText file r) room r (nextReplay file r))

@@ -31,6 +31,7 @@ WholeReport =
 unfoldable pub mostPart : ℕ
 mostPart = 98324
 
+-- no part is longer than that
 abbrev pub PartMost : Type 0
 PartMost = (file : List ℕ) → (length (firstText file) ≤ mostPart) × ((r : Replay) → length (nextText file r) ≤ mostPart)
 

@@ -6,7 +6,7 @@ use Prim.Native.Nat.{ℕ, zero, suc, _+_, _-_, _*_, _%_, _^_}
 use lib.Dec.{leb, eqb}
 use lib.ListN.{length}
 use Rattle.rules.specs.Octets.{choose}
-use Rattle.rules.specs.Lines.{judged}
+use Rattle.rules.specs.Lines.{mostHeld, judged}
 use Rattle.rules.specs.declared.Answer.{Answer}
 use Rattle.rules.specs.declared.Answer.the-variants.{
   Done,
@@ -32,6 +32,7 @@ answerNumber DirectionEnded = 6
 pub data Side : Type 0 where
   client server : Side
 
+-- the side of a direction's number; a number that number 3 refuses counts as the server's
 abbrev pub sideOf : ℕ → Side
 sideOf zero = client
 sideOf (suc d) = server
@@ -49,11 +50,11 @@ isQueueFull server authYet owed = false
 unfoldable pub fits : List ℕ → List ℕ → ℕ → ℕ → Bool
 fits toServer toClient serverRoom clientRoom = leb (length toServer) serverRoom && leb (length toClient) clientRoom
 
--- number 4, for a side: "over 511 octets held, or octets held where the line already flows, the direction has ended or its octets pass at once"
+-- not 4, for a side: not "over 511 octets held, or octets held where the line already flows, the direction has ended or its octets pass at once"
 unfoldable pub soundHeld : Bool → ℕ → Bool
-soundHeld mayHold held = choose mayHold (leb held (judged - 1)) (eqb held 0)
+soundHeld mayHold held = choose mayHold (leb held mostHeld) (eqb held 0)
 
--- number 4: "record not live, over 16 owed, an owed kind not listed here", or a side's held octets
+-- not 4: not "record not live, over 16 owed, an owed kind not listed here", and no side's held octets
 unfoldable pub soundRecord : Bool → ℕ → Bool → Bool → Bool → Bool
 soundRecord live owed kindsListed clientHeld serverHeld =
     live && leb owed mostOwed && kindsListed && clientHeld && serverHeld
@@ -73,6 +74,7 @@ stop full room = choose full (some QueueFull) (choose room none (some NoRoom))
 abbrev pub longestAnswer : ℕ
 longestAnswer = 48
 
+-- those of a whole queue of them
 abbrev pub mostAnswers : ℕ
 mostAnswers = mostOwed * longestAnswer
 
@@ -80,6 +82,7 @@ mostAnswers = mostOwed * longestAnswer
 unfoldable pub mostToServer : ℕ
 mostToServer = judged
 
+-- "at most 1,280 to the client"
 unfoldable pub mostToClient : ℕ
 mostToClient = judged + mostAnswers
 

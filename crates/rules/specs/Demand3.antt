@@ -73,6 +73,7 @@ abbrev pub lentServer : Call → List ℕ
 lentServer (arrival d xs s c) = s
 lentServer (ending d s c) = s
 
+-- the one for the client
 abbrev pub lentClient : Call → List ℕ
 lentClient (arrival d xs s c) = c
 lentClient (ending d s c) = c
@@ -92,6 +93,7 @@ module _ (g : Gateway) where
   itemsOf (arrival d xs s c) t = map (octet (sideOf d)) (take (t .taken) xs)
   itemsOf (ending d s c) t = endIfDone (t .answer) (sideOf d)
 
+  -- "in order": the items of all calls
   abbrev pub historyOf : List Made → List Item
   historyOf [] = []
   historyOf (m ∷ l) = itemsOf (m .0) (m .1) ++ historyOf l
@@ -101,6 +103,7 @@ module _ (g : Gateway) where
   goneToServer [] = []
   goneToServer (m ∷ l) = take (m .1 .toServer) (m .1 .serverBuffer) ++ goneToServer l
 
+  -- the same for the client
   abbrev pub goneToClient : List Made → List ℕ
   goneToClient [] = []
   goneToClient (m ∷ l) = take (m .1 .toClient) (m .1 .clientBuffer) ++ goneToClient l
@@ -159,6 +162,7 @@ module _ (g : Gateway) where
     pub serverBuffer : t .serverBuffer ≡ lentServer c
     pub clientBuffer : t .clientBuffer ≡ lentClient c
 
+  -- every refused call does so
   abbrev pub RefusalsLeaveAll : Type 0
   RefusalsLeaveAll =
       (r : g .Session) (c : Call) (t : Return (g .Session)) → g .Promise r c t → isRefusal (t .answer) ≡ true → LeftAlone r c t
@@ -170,6 +174,7 @@ module _ (g : Gateway) where
     pub toServer : goneToServer (l ++ (c, t) ∷ m) ≡ goneToServer (l ++ m)
     pub toClient : goneToClient (l ++ (c, t) ∷ m) ≡ goneToClient (l ++ m)
 
+  -- it is so wherever a refused call stands in a list
   abbrev pub RefusedChangesNothing : Type 0
   RefusedChangesNothing =
       (r z : g .Session) (l m : List Made) (c : Call) (t : Return (g .Session))

@@ -14,21 +14,27 @@ abbrev pub oct : String → List ℕ
 oct S.[] = []
 oct (S._∷_ c s) = code c ∷ oct s
 
+-- LF, which ends a line
 abbrev pub lf : ℕ
 lf = 10
 
+-- CR
 abbrev pub cr : ℕ
 cr = 13
 
+-- a space
 abbrev pub space : ℕ
 space = 32
 
+-- a comma
 abbrev pub comma : ℕ
 comma = 44
 
+-- a dot
 abbrev pub dot : ℕ
 dot = 46
 
+-- a colon
 abbrev pub colon : ℕ
 colon = 58
 
@@ -37,10 +43,12 @@ unfoldable pub choose : {A : Type 0} → Bool → A → A → A
 choose true x y = x
 choose false x y = y
 
+-- there is nothing in a list
 abbrev pub isEmpty : {A : Type 0} → List A → Bool
 isEmpty [] = true
 isEmpty (x ∷ xs) = false
 
+-- a number is lo to hi, both included
 abbrev pub within : ℕ → ℕ → ℕ → Bool
 within lo hi x = leb lo x && leb x hi
 
@@ -48,13 +56,16 @@ within lo hi x = leb lo x && leb x hi
 abbrev pub is : ℕ → ℕ → Bool
 is d x = eqb x d
 
+-- an octet is not d
 abbrev pub isNot : ℕ → ℕ → Bool
 isNot d x = not (eqb x d)
 
+-- each octet passes a test
 unfoldable pub every : (ℕ → Bool) → List ℕ → Bool
 every p [] = true
 every p (x ∷ xs) = p x && every p xs
 
+-- two texts are the same octets
 unfoldable pub equal : List ℕ → List ℕ → Bool
 equal [] [] = true
 equal [] (y ∷ ys) = false
@@ -74,9 +85,11 @@ unfoldable pub run : (ℕ → Bool) → List ℕ → ℕ
 run p [] = 0
 run p (x ∷ xs) = choose (p x) (suc (run p xs)) 0
 
+-- those octets
 unfoldable pub front : (ℕ → Bool) → List ℕ → List ℕ
 front p xs = take (run p xs) xs
 
+-- what follows them
 unfoldable pub after : (ℕ → Bool) → List ℕ → List ℕ
 after p xs = drop (run p xs) xs
 
@@ -101,9 +114,11 @@ unfoldable pub parts : ℕ → List ℕ → List (List ℕ)
 parts d [] = [] ∷ []
 parts d (x ∷ xs) = choose (eqb x d) ([] ∷ parts d xs) (ontoFirst x (parts d xs))
 
+-- an octet is a digit
 abbrev pub digit : ℕ → Bool
 digit x = within 48 57 x
 
+-- an octet is no digit
 abbrev pub notDigit : ℕ → Bool
 notDigit x = not (digit x)
 
@@ -112,6 +127,7 @@ unfoldable pub valueFrom : ℕ → List ℕ → ℕ
 valueFrom n [] = n
 valueFrom n (x ∷ xs) = valueFrom (n * 10 + (x - 48)) xs
 
+-- the number that digits write
 unfoldable pub value : List ℕ → ℕ
 value xs = valueFrom 0 xs
 
@@ -126,6 +142,7 @@ decimalBy zero n = (48 + n) ∷ []
 decimalBy (suc f) n =
     elim (ltb n 10) [ true ↦ (48 + n) ∷ [] | false ↦ decimalBy f (n / 10) ++ ((48 + n % 10) ∷ []) ]
 
+-- a number in decimal: its own value bounds the recursion
 unfoldable pub decimal : ℕ → List ℕ
 decimal n = decimalBy n n
 

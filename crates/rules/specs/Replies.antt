@@ -57,6 +57,7 @@ passiveReply c =
 
 -- ---- the lines that the gateway writes to the client
 
+-- "`229 Entering Extended Passive Mode (|||port|)`"
 unfoldable pub extendedPassiveLine : ℕ → List ℕ
 extendedPassiveLine p = oct "229 Entering Extended Passive Mode (|||" ++ (decimal p ++ oct "|)\r\n")
 
@@ -67,6 +68,7 @@ stateLine true false = oct "216 EPSV\r\n"
 stateLine false true = oct "216 EPRT\r\n"
 stateLine true true = oct "216 EPSVEPRT\r\n"
 
+-- "`522 Network protocol not supported`", "`504 Command not implemented for that parameter`", or a 216
 unfoldable pub answerLine : OwnAnswer → List ℕ
 answerLine ProtocolNotSupported = oct "522 Network protocol not supported\r\n"
 answerLine ParameterNotImplemented = oct "504 Command not implemented for that parameter\r\n"
@@ -74,6 +76,7 @@ answerLine (State sw) = stateLine (sw .epsv) (sw .eprt)
 
 -- ---- a line that ends a final reply
 
+-- "if not 0 the line becomes `229 Entering Extended Passive Mode (|||port|)`. Otherwise it passes"
 unfoldable pub passiveGives : List ℕ → PassiveReply → List ℕ
 passiveGives l PassiveReply.Unreadable = unchanged l
 passiveGives l (PassiveReply.Port p) = extendedPassiveLine p
@@ -87,6 +90,7 @@ finalGives Kind.Auth l = unchanged l
 
 -- ---- the queue
 
+-- the kind is AUTH
 abbrev pub isAuth : Kind → Bool
 isAuth Kind.Plain = false
 isAuth Kind.TranslatedEpsv = false
@@ -101,6 +105,7 @@ removed (Kind.TranslatedEpsv ∷ ks) = ks
 removed (Kind.Own a ∷ ks) = Kind.Own a ∷ ks
 removed (Kind.Auth ∷ ks) = ks
 
+-- "First digit 2 to 5 also removes the first owed kind"
 unfoldable pub owedAfter : ReplyLine → List Kind → List Kind
 owedAfter GoesOn ks = ks
 owedAfter Preliminary ks = ks
@@ -114,6 +119,7 @@ headAnswers (Kind.TranslatedEpsv ∷ ks) = []
 headAnswers (Kind.Own a ∷ ks) = answerLine a ++ headAnswers ks
 headAnswers (Kind.Auth ∷ ks) = []
 
+-- the queue without them
 unfoldable pub withoutAnswers : List Kind → List Kind
 withoutAnswers [] = []
 withoutAnswers (Kind.Plain ∷ ks) = Kind.Plain ∷ ks

@@ -28,6 +28,7 @@ pub record ClientState (S : Type 0) : Type 0 where
   pub lineState : S
   pub place : Place
 
+-- the rest of it: the server's place, "the kinds owed" and "whether a reply is unfinished"
 pub record ServerState : Type 0 where
   pub place : Place
   pub owed : List Kind
@@ -35,10 +36,12 @@ pub record ServerState : Type 0 where
 
 -- ---- a client octet: the client's state after it, and the kinds that it puts on the queue
 
+-- the client's state after its octet, and the kinds that the octet puts on the queue
 pub record ClientStep (S : Type 0) : Type 0 where
   pub state : ClientState S
   pub owes : List Kind
 
+-- the client's place behind a finished line: it passes at once from AUTH on
 abbrev pub placeAfter : Kind → Place
 placeAfter k = choose (isAuth k) passing (inLine [])
 
@@ -61,10 +64,12 @@ clientOctet rules st ended x = record { state = record { lineState = st; place =
 
 -- ---- a server octet: what it gives, and the server's state after it
 
+-- the server's state, and what has gone to the client on the way to it
 pub record ServerStep : Type 0 where
   pub state : ServerState
   pub gives : List ℕ
 
+-- a step of the server's to this place, queue and reply
 abbrev pub serverStepTo : Place → List Kind → Bool → List ℕ → ServerStep
 serverStepTo p owed unfinished gives = record { state = record { place = p; owed = owed; unfinished = unfinished }; gives = gives }
 
@@ -73,6 +78,7 @@ unfoldable pub finalLineGives : LineRules → List Kind → Bool → List ℕ �
 finalLineGives rules [] unfinished l = unchanged l
 finalLineGives rules (k ∷ ks) unfinished l = choose unfinished (unchanged l) (rules .finalLine k l)
 
+-- a line judged whole: one that does not end a final reply passes
 unfoldable pub wholeLineGives : LineRules → List Kind → Bool → List ℕ → ReplyLine → List ℕ
 wholeLineGives rules owed unfinished l GoesOn = unchanged l
 wholeLineGives rules owed unfinished l Preliminary = unchanged l
@@ -89,6 +95,7 @@ serverLine rules owed unfinished l =
 unfoldable pub lineOctetGives : List ℕ → ℕ → List ℕ
 lineOctetGives l x = choose (isWhole l) [] (choose (eqb (length l) judged) (passed l) (x ∷ []))
 
+-- a server octet that is no LF joins its line
 unfoldable pub lineOctet : List Kind → Bool → List ℕ → ℕ → ServerStep
 lineOctet owed unfinished l x = serverStepTo (inLine l) owed unfinished (lineOctetGives l x)
 
@@ -119,6 +126,7 @@ ownAnswers p owed unfinished gives =
     choose (unfinished || flowsOrEnded p) (serverStepTo p owed unfinished gives)
     (serverStepTo p (withoutAnswers owed) unfinished (gives ++ headAnswers owed))
 
+-- "all later ones pass at once", unless the server has ended
 abbrev pub passesFromNow : Place → Place
 passesFromNow (inLine l) = passing
 passesFromNow passing = passing
@@ -138,6 +146,7 @@ afterOctet t new = let s = t .state in authStep (ownAnswers (s .place) (s .owed 
 
 -- ---- the whole history
 
+-- each item's own part, then the rest from the state after it
 unfoldable pub readToClient : (rules : LineRules) → ClientState (rules .LineState) → ServerState → List Item → List ℕ
 readToClient rules c s [] = []
 readToClient rules c s (octet client x ∷ is) =
@@ -155,6 +164,7 @@ readToClient rules c s (end server ∷ is) =
 abbrev pub freshServer : ServerState
 freshServer = record { place = inLine []; owed = Kind.Plain ∷ []; unfinished = false }
 
+-- nothing of a line yet, and the first state of the line rules
 abbrev pub freshClient : {S : Type 0} → S → ClientState S
 freshClient st = record { lineState = st; place = inLine [] }
 

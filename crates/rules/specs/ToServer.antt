@@ -15,10 +15,12 @@ pub record Text : Type 0 where
   pub lines : List (List ℕ)
   pub rest : List ℕ
 
+-- an octet before the first line of a text
 unfoldable pub ontoLine : ℕ → List (List ℕ) → List ℕ → Text
 ontoLine x [] rest = record { lines = []; rest = x ∷ rest }
 ontoLine x (l ∷ ls) rest = record { lines = (x ∷ l) ∷ ls; rest = rest }
 
+-- an octet before a text: an LF makes an empty line in front, any other octet joins the first line
 unfoldable pub ontoText : Bool → ℕ → Text → Text
 ontoText true x t = record { lines = [] ∷ t .lines; rest = t .rest }
 ontoText false x t = ontoLine x (t .lines) (t .rest)
@@ -48,6 +50,7 @@ finishedLine rules st l =
 unfoldable pub unfinishedLine : List ℕ → Bool → List ℕ
 unfinishedLine rest ended = choose (isWhole rest) (choose ended (passed rest) []) (passed rest)
 
+-- "read line by line", up to AUTH
 unfoldable pub readLines : (rules : LineRules) → rules .LineState → List (List ℕ) → List ℕ → Bool → List ℕ
 readLines rules st [] rest ended = unfinishedLine rest ended
 readLines rules st (l ∷ ls) rest ended =
@@ -55,6 +58,7 @@ readLines rules st (l ∷ ls) rest ended =
     let next = readLines rules (line .after) ls rest ended in
     line .toServer ++ choose (isAuth (line .owes)) (asTheyCame ls rest) next
 
+-- "the client's octets are one text": read by any rules, from one of their states on
 unfoldable pub readToServer : (rules : LineRules) → rules .LineState → List ℕ → Bool → List ℕ
 readToServer rules st text ended = let t = asLines text in readLines rules st (t .lines) (t .rest) ended
 

@@ -8,7 +8,7 @@ use lib.Dec.{leb}
 use lib.ListN.{length}
 use Rattle.rules.specs.Octets.{every}
 use Rattle.rules.specs.Answers.{Side, mostOwed, mostToServer, mostToClient, isQueueFull}
-use Rattle.rules.specs.Lines.{judged}
+use Rattle.rules.specs.Lines.{mostHeld}
 use Rattle.rules.specs.Demand3.{isRefusal}
 use Rattle.rules.specs.declared.Answer.{Answer}
 use Rattle.records.specs.declared.Session.{Session}
@@ -21,8 +21,8 @@ use Rattle.session.specs.Calls.{stateOf, fixedOf}
 pub record Shaped (s : Session) : Type 0 where
   pub mapped : length (s .mapped) ≡ 4
   pub octets : every (λ n. leb n 255) (s .mapped) ≡ true
-  pub command : length (s .command) ≡ judged - 1
-  pub reply : length (s .reply) ≡ judged - 1
+  pub command : length (s .command) ≡ mostHeld
+  pub reply : length (s .reply) ≡ mostHeld
   pub kinds : length (s .kinds) ≡ mostOwed
 
 -- "One octet writes at most 512 octets to the server and at most 1,280 to the client"
@@ -30,6 +30,7 @@ pub record WritesAtMost (t : Step) : Type 0 where
   pub toServer : length (t .toServer) ≤ mostToServer
   pub toClient : length (t .toClient) ≤ mostToClient
 
+-- so does an octet of either side, of a record that number 4 does not refuse and before which number 1 is not given
 abbrev pub OctetBound : Type 0
 OctetBound =
     (s : Session) (d : Side) (x : ℕ) → Shaped s → sound s ≡ true

@@ -8,7 +8,7 @@ use lib.ListN.{length, drop, replicate}
 use Rattle.rules.specs.Octets.{choose}
 use Rattle.rules.specs.Answers.{Side, client, server, sideOf, mostOwed, fits, wrapped, offsetOf}
 use Rattle.rules.specs.Setup.{eprtSupported, setupSwitches, badFlags, setupAnswer}
-use Rattle.rules.specs.Lines.{judged, passed}
+use Rattle.rules.specs.Lines.{mostHeld, passed}
 use Rattle.rules.specs.declared.Answer.{Answer}
 use Rattle.rules.specs.declared.Switches.{Switches}
 use Rattle.records.specs.Layout.{ipv6Width, ipv4Width}
@@ -32,11 +32,13 @@ use Rattle.steps.specs.Takes.{Took, takes, takes-opened}
 
 -- arrays and counts of zeros
 abbrev pub noOctets : List ℕ
-noOctets = replicate (judged - 1) 0
+noOctets = replicate mostHeld 0
 
+-- an array of kinds, all zero
 abbrev pub noKinds : List ℕ
 noKinds = replicate mostOwed 0
 
+-- a direction's counts, both zero
 abbrev pub noCounts : Counts
 noCounts = record { taken = 0; written = 0 }
 
@@ -44,10 +46,12 @@ noCounts = record { taken = 0; written = 0 }
 abbrev pub startDirection : Direction
 startDirection = at Place.Holding 0
 
+-- a control at the start: the switches, and how many replies are owed
 abbrev pub startControl : Switches → ℕ → Control
 startControl sw owed =
     record { switches = sw; client = startDirection; server = startDirection; owed = owed; unfinished = false }
 
+-- a record at the start: what is given, and arrays and counts of zeros
 abbrev pub startSession : Bool → List ℕ → List ℕ → Bool → Control → Session
 startSession live address mapped supported c =
     record {
@@ -84,6 +88,7 @@ prepared address mapped flags =
 abbrev pub stateOf : Session → State
 stateOf s = record { control = s .control; command = s .command; reply = s .reply; kinds = s .kinds }
 
+-- what they don't: the addresses, and whether EPRT is supported
 abbrev pub fixedOf : Session → Fixed
 fixedOf s = record { client = s .client; mapped = s .mapped; supported = s .supported }
 
@@ -118,6 +123,7 @@ sessionAfter s d taken toServer toClient t =
 
 -- ---- a call: what it returns, and what it wrote into each buffer
 
+-- what a call returns, and what it wrote for the server and for the client
 pub record Outcome : Type 0 where
   pub called : Called
   pub toServer : List ℕ

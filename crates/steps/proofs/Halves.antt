@@ -39,7 +39,7 @@ module _ (lines : List ℕ) (size : length lines ≡ linesSize) where
   pub reply-size : length (replyIn lines) ≡ mostHeld
   reply-size = length-drop mostHeld lines ∙ omega (arith, size)
 
-  -- `lines[HELD..]` is lent as the octets from 511 to the slice's length
+  -- `lines[HELD..]` is lent as the octets from there to the slice's length
   pub reply-lent : midOf mostHeld (length lines - mostHeld) lines ≡ replyIn lines
   reply-lent = rest-from mostHeld lines
 

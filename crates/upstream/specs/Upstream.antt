@@ -18,6 +18,7 @@ use Rattle.queue.specs.declared.Owes.{Owes}
 use Rattle.upstream.specs.declared.ClientEffect.{ClientEffect}
 use Rattle.places.specs.Places.{at}
 
+-- the effect of a client octet, by its parts
 abbrev pub clientEffectOf : Gives → Direction → Switches → Owes → ClientEffect
 clientEffectOf g d sw o = record { gives = g; direction = d; switches = sw; owes = o }
 

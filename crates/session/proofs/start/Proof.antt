@@ -1,4 +1,4 @@
--- `session::start` meets its contract: 511 and 16 are the lengths of the arrays.
+-- `session::start` meets its contract: the lengths of the arrays are those of their types.
 use mathlib.Core.Path.{refl}
 use Rattle.rules.specs.Lines.{judged}
 use Rattle.session.proofs.start.Statement.{statement}
