@@ -14,9 +14,8 @@ struct host {
 
 /* Sets a session up: client 2001:db8:2::31, mapped 192.0.2.31. */
 static uint8_t set_up(struct host *h, uint8_t flags) {
-    static const uint8_t client[16] = {0x20, 0x01, 0x0d, 0xb8, 0x00, 0x02, [15] = 0x31};
-    static const uint8_t mapped[4] = {192, 0, 2, 31};
-    return fashlemor_setup(h->record, sizeof h->record, client, sizeof client, mapped, sizeof mapped, flags);
+    uint8_t setup[FASHLEMOR_SETUP] = {0x20, 0x01, 0x0d, 0xb8, 0x00, 0x02, [15] = 0x31, 192, 0, 2, 31, flags};
+    return fashlemor_setup(h->record, sizeof h->record, setup, sizeof setup);
 }
 
 static uint8_t arrive(struct host *h, uint8_t direction, const char *text) {

@@ -20,6 +20,9 @@ extern "C" {
 /* The octets of a record. */
 #define FASHLEMOR_RECORD 1093
 
+/* The octets of a setup: the client's IPv6 address (16), its mapped IPv4 address (4) and the flags (1). */
+#define FASHLEMOR_SETUP 21
+
 /* With this much room in each buffer an arrival that is not refused and not stopped by 1 takes at least one of its octets. */
 #define FASHLEMOR_ROOM 1280
 
@@ -54,13 +57,10 @@ enum fashlemor_count {
     FASHLEMOR_TO_CLIENT = 2  /* octets written to the front of to_client */
 };
 
-/* Writes the record of a fresh session: the client's IPv6 address (16 octets), its mapped IPv4 address (4 octets) and the flags.
- * Answers 0 or 5. It is 5 for undefined flags, for EPRT on and not supported, for an address of another length, and for a record that is too short;
- * the record is then all zero (one that is too short stays as it was). */
-uint8_t fashlemor_setup(uint8_t *record, size_t record_length,
-                        const uint8_t *client, size_t client_length,
-                        const uint8_t *mapped, size_t mapped_length,
-                        uint8_t flags);
+/* Writes the record of a fresh session, from the FASHLEMOR_SETUP octets of a setup.
+ * Answers 0 or 5. It is 5 for undefined flags, for EPRT on and not supported, for a setup of another length, and for a record
+ * that is too short; the record is then all zero (one that is too short stays as it was). */
+uint8_t fashlemor_setup(uint8_t *record, size_t record_length, const uint8_t *setup, size_t setup_length);
 
 /* Octets of a direction arrive. What goes to the server and to the client is written to the front of the two buffers, whose rest stays as it was.
  * Answers 0, 1, 2, 3, 4 or 6. With 1 and 2 the counts are those of the octets taken; the others are to be handed in again.

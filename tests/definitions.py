@@ -121,7 +121,7 @@ use mathlib.Core.List.{List, [], _∷_, _++_, map}
 use Prim.Native.Nat.{ℕ}
 use Rattle.rules.specs.Octets.{oct}
 use Rattle.rules.specs.Answers.{client, server}
-use Rattle.rules.specs.Setup.{Setup}
+use Rattle.rules.specs.declared.Setup.{Setup}
 use Rattle.rules.specs.History.{Item, end, textOf, hasEnded}
 use Rattle.rules.specs.ToServer.{toServer, to-server-opened}
 use Rattle.rules.specs.ToClient.{toClient, to-client-opened}

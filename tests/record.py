@@ -9,7 +9,7 @@ import sys
 
 ROOT = pathlib.Path(__file__).resolve().parent.parent
 SPECS = ROOT / "crates"
-PAGES = [SPECS / "rules/specs/Lines.antt", SPECS / "rules/specs/Answers.antt", SPECS / "records/specs/Layout.antt"]
+PAGES = [SPECS / "rules/specs/Lines.antt", SPECS / "rules/specs/Answers.antt", SPECS / "rules/specs/Setup.antt", SPECS / "records/specs/Layout.antt"]
 RECORD = ROOT / "docs" / "RECORD.md"
 NUMBER = re.compile(r"^(?:abbrev|unfoldable) pub (\w+) : ℕ\n\1 = (.+)$", re.M)
 
@@ -53,8 +53,10 @@ def faults():
     yield from told("docs/RECORD.md", r"as an image: ([\d,]+) octets", known["imageSize"])
     yield from told("docs/RECORD.md", r"over (\d+) held where", known["mostHeld"])
     yield from told("relay/fashlemor.h", r"^#define FASHLEMOR_RECORD (\d+)$", known["imageSize"])
+    yield from told("relay/fashlemor.h", r"^#define FASHLEMOR_SETUP (\d+)$", known["setupSize"])
     yield from told("relay/fashlemor.h", r"^#define FASHLEMOR_ROOM (\d+)$", known["mostToClient"])
     yield from told("relay/rust/src/lib.rs", r"^pub const RECORD: usize = ([\d_]+);$", known["imageSize"])
+    yield from told("relay/rust/src/lib.rs", r"^pub const SETUP: usize = ([\d_]+);$", known["setupSize"])
 
 
 def main():

@@ -182,7 +182,7 @@ impl Gateway for Ours {
     fn setup(setup: &Setup) -> (Ours, Seen) {
         let mut ours = Ours::of_record(&PATTERN[..fashlemor::RECORD]);
         let record = &mut ours.record[..fashlemor::RECORD];
-        let answer = fashlemor::setup(record, &setup.client, &setup.mapped, setup.flags);
+        let answer = fashlemor::setup(record, &setup.octets());
         let dead = ours.record().iter().all(|&octet| octet == 0);
         let fault = if ours.is_written_behind() {
             Some(WRITTEN_BEHIND)

@@ -198,20 +198,19 @@ impl Gateway for NearWrap {
     }
 }
 
-/// Setups with addresses of other lengths and records of other lengths, the offset of an unknown
+/// Setups of other lengths and records of other lengths, the offset of an unknown
 /// direction: what `relay/fashlemor.h` says of them.
 pub fn odd_lengths() -> Option<String> {
-    let address = [1; 17];
-    for (client, mapped) in [(15, 4), (17, 4), (0, 4), (16, 3), (16, 5), (16, 0)] {
+    let setup = [1; 2 * fashlemor::SETUP];
+    for length in (0..setup.len()).filter(|&length| length != fashlemor::SETUP) {
         let mut record = [9; fashlemor::RECORD];
-        let answer = fashlemor::setup(&mut record, &address[..client], &address[..mapped], 7);
+        let answer = fashlemor::setup(&mut record, &setup[..length]);
         if answer != fashlemor::BAD_SETUP || record != [0; fashlemor::RECORD] {
-            let said = format!("addresses of {client} and {mapped} octets are answered {answer}");
-            return Some(said);
+            return Some(format!("a setup of {length} octets is answered {answer}"));
         }
     }
     let mut short = [9; fashlemor::RECORD - 1];
-    let answer = fashlemor::setup(&mut short, &address[..16], &address[..4], 7);
+    let answer = fashlemor::setup(&mut short, &setup[..fashlemor::SETUP]);
     if answer != fashlemor::BAD_SETUP || short != [9; fashlemor::RECORD - 1] {
         return Some(format!("a record that is too short is answered {answer}"));
     }
@@ -238,7 +237,7 @@ mod tests {
     #[test]
     fn numbers_are_where_the_layout_has_them() {
         let mut record = [0; fashlemor::RECORD];
-        fashlemor::setup(&mut record, &[1; 16], &[1; 4], 7);
+        fashlemor::setup(&mut record, &[1; fashlemor::SETUP]);
         let line = [b'x'; 300];
         fashlemor::arrive(&mut record, fashlemor::SERVER, &line, &mut [], &mut []);
         let counters = layout::COUNTERS.map(|counter| number(&record, counter));

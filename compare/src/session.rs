@@ -23,6 +23,13 @@ pub struct Setup {
     pub flags: u8,
 }
 
+impl Setup {
+    /// As a session file and the library have it.
+    pub fn octets(&self) -> Vec<u8> {
+        [&self.client[..], &self.mapped, &[self.flags]].concat()
+    }
+}
+
 /// The octets free in the buffer for each side.
 #[derive(Clone, Copy, Debug, PartialEq, Eq)]
 pub struct Rooms {
@@ -105,12 +112,7 @@ impl Session {
     }
 
     fn octets_of_file(&self) -> Vec<u8> {
-        let Setup {
-            client,
-            mapped,
-            flags,
-        } = self.setup;
-        let setup = [&client[..], &mapped, &[flags]].concat();
+        let setup = self.setup.octets();
         let mut entries = vec![(4, &setup[..])];
         entries.extend(self.calls.iter().map(|call| (call.kind(), call.octets())));
         let mut file = (entries.len() as u16).to_be_bytes().to_vec();

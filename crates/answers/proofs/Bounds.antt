@@ -45,13 +45,14 @@ use Rattle.upstream.specs.Upstream.{commandEffect, judgedEffect, joinEffect, pl
 use Rattle.downstream.specs.Downstream.{passiveEffect, kindEffect, headEffect, lineGives, wholeLine, flowingLine, replyOctet, replyEffect, serverEffect}
 use Rattle.octets.proofs.Choices.{either, by-test}
 use Rattle.queue.proofs.Answers.{length-queue}
-use Rattle.steps.specs.declared.Fixed.{Fixed}
+use Rattle.rules.specs.declared.Fixed.{Fixed}
+use Rattle.rules.specs.Setup.{ipv4Width}
 use Rattle.records.specs.declared.Session.{Session}
 use Rattle.steps.specs.Steps.{State, Step, owedThen, owedFrom, answersText, isAuthNext, settledText, clientState, clientEffectIn, clientStep, serverState, serverEffectIn, serverStep, octetStep}
 use Rattle.records.specs.Sound.{refusalOf, blocked}
 use Rattle.places.specs.Places.{isPassing}
 use Rattle.steps.specs.Takes.{Took, unlessStopped, stopOf, takes}
-use Rattle.session.specs.Calls.{stateOf, fixedOf, refused, unlessRefused, outcome, arrived}
+use Rattle.session.specs.Calls.{stateOf, refused, unlessRefused, outcome, arrived}
 use Rattle.session.specs.Bounds.{Shaped, WritesAtMost, OctetBound, Progress}
 use Rattle.steps.proofs.Turns.{place-owed}
 use Rattle.answers.proofs.Lengths.{isOctet, judged-most, judged-held, port-line, pasv-line, passive-line, head-answers}
@@ -82,10 +83,10 @@ record Short (n : ℕ) (l : List ℕ) : Type 0 where
 
 -- ---- what an octet gives on its own side
 
-module _ (mapped : List ℕ) (size : length mapped ≡ 4) (octets : every isOctet mapped ≡ true) (h : List ℕ) (x : ℕ) where
+module _ (f : Fixed) (size : length (f .mapped) ≡ ipv4Width) (octets : every isOctet (f .mapped) ≡ true) (h : List ℕ) (x : ℕ) where
   -- at most one line is given
   record Line (g : Gives) : Type 0 where
-    most : length (givesText mapped h x g) ≤ judged
+    most : length (givesText f h x g) ≤ judged
 
   octet-line : Line Gives.Octet
   unfolding givesText
@@ -107,7 +108,7 @@ module _ (mapped : List ℕ) (size : length mapped ≡ 4) (octets : every isOcte
   unfolding commandEffect givesText
   command-line less k passes = held-line less
   command-line less k passive = record { most = pasv-line }
-  command-line less k (port p small) = record { most = port-line mapped p size octets small }
+  command-line less k (port p small) = record { most = port-line (f .mapped) p size octets small }
   command-line less k (answered a) = nothing-line
   command-line less k auth = held-line less
 
@@ -121,16 +122,16 @@ module _ (mapped : List ℕ) (size : length mapped ≡ 4) (octets : every isOcte
   join-line less sw held =
       either ClientLine _ _ _ (record { line = kept-line }) (either ClientLine _ _ _ (record { line = held-line less }) (record { line = held-line less }))
 
-  place-line : length h < judged → (address : List ℕ) (supported : Bool) (sw : Switches) (p : Place) (held : ℕ) (b : Bool)
-      → ClientLine (placeEffect address supported sw p held h b)
+  place-line : length h < judged → (sw : Switches) (p : Place) (held : ℕ) (b : Bool)
+      → ClientLine (placeEffect f sw p held h b)
   unfolding placeEffect judgedEffect
-  place-line less address supported sw Place.Holding held true =
-      record { line = command-line less (command address supported sw h) (command-small address supported sw h) }
-  place-line less address supported sw Place.Holding held false = join-line less sw held
-  place-line less address supported sw Place.Flowing held true = record { line = octet-line }
-  place-line less address supported sw Place.Flowing held false = record { line = octet-line }
-  place-line less address supported sw Place.Passing held b = record { line = octet-line }
-  place-line less address supported sw Place.Ended held b = record { line = nothing-line }
+  place-line less sw Place.Holding held true =
+      record { line = command-line less (command f sw h) (command-small f sw h) }
+  place-line less sw Place.Holding held false = join-line less sw held
+  place-line less sw Place.Flowing held true = record { line = octet-line }
+  place-line less sw Place.Flowing held false = record { line = octet-line }
+  place-line less sw Place.Passing held b = record { line = octet-line }
+  place-line less sw Place.Ended held b = record { line = nothing-line }
 
   -- ---- a server line judged whole
 
@@ -159,7 +160,7 @@ module _ (mapped : List ℕ) (size : length mapped ≡ 4) (octets : every isOcte
 
   -- what a server octet gives and what is held after it are together at most one line
   record ServerLine (e : ServerEffect) : Type 0 where
-    together : length (givesText mapped h x (e .gives)) + e .direction .held ≤ judged
+    together : length (givesText f h x (e .gives)) + e .direction .held ≤ judged
 
   next-line : length h < judged → (u : Bool) (held : ℕ) → ServerLine (replyOctet u held)
   unfolding replyOctet givesText
@@ -179,7 +180,7 @@ module _ (mapped : List ℕ) (size : length mapped ≡ 4) (octets : every isOcte
 
 -- ---- own answers and the AUTH step
 
--- 48 for each kind owed, and the octets held
+-- the longest answer for each kind owed, and the octets held
 settled-most : (s : State) (n : ℕ) → length (settledText s n) ≤ s .control .owed * longestAnswer + s .control .server .held
 unfolding settledText answersText
 settled-most s n =
@@ -210,7 +211,7 @@ small s w =
 
 -- ---- one octet
 
-module _ (f : Fixed) (size : length (f .mapped) ≡ 4) (octets : every isOctet (f .mapped) ≡ true) (s : State) (x : ℕ) (sm : Small s) where
+module _ (f : Fixed) (size : length (f .mapped) ≡ ipv4Width) (octets : every isOctet (f .mapped) ≡ true) (s : State) (x : ℕ) (sm : Small s) where
   client-most : isQueueFull client (isPassing (s .control .client .place)) (s .control .owed) ≡ false → WritesAtMost (clientStep f s x)
   unfolding clientStep clientState clientEffectIn clientEffect mostToServer mostToClient
   client-most notFull =
@@ -218,10 +219,10 @@ module _ (f : Fixed) (size : length (f .mapped) ≡ 4) (octets : every isOctet (
       let h : List ℕ = take (d .held) (s .command) in
       let e : ClientEffect = clientEffectIn f s x in
       let less : length h < judged = omega (arith, take-most (d .held) (s .command), sm .client) in
-      let given : ClientLine (f .mapped) size octets h x e =
-      place-line (f .mapped) size octets h x less (f .client) (f .supported) (s .control .switches) (d .place) (d .held) (eqb x lf) in
+      let given : ClientLine f size octets h x e =
+      place-line f size octets h x less (s .control .switches) (d .place) (d .held) (eqb x lf) in
       let owed : owedThen (s .control .owed) (e .owes) ≤ mostOwed =
-      place-owed (f .client) (f .supported) (s .control .switches) (d .place) (d .held) h (eqb x lf) (s .control .owed) (sm .owed) notFull in
+      place-owed f (s .control .switches) (d .place) (d .held) h (eqb x lf) (s .control .owed) (sm .owed) notFull in
       record {
         toServer = given .line .most;
         toClient = omega (arith, settled-most (clientState s x e) 0, owed, sm .server);
@@ -234,8 +235,8 @@ module _ (f : Fixed) (size : length (f .mapped) ≡ 4) (octets : every isOctet (
       let h : List ℕ = take (d .held) (s .reply) in
       let e : ServerEffect = serverEffectIn s x in
       let less : length h < judged = omega (arith, take-most (d .held) (s .reply), sm .server) in
-      let given : ServerLine (f .mapped) size octets h x e =
-      reply-line (f .mapped) size octets h x less (s .control .unfinished) (headOf (s .kinds) (s .control .owed)) (d .place) (d .held) (s .reply) (eqb x lf) in
+      let given : ServerLine f size octets h x e =
+      reply-line f size octets h x less (s .control .unfinished) (headOf (s .kinds) (s .control .owed)) (d .place) (d .held) (s .reply) (eqb x lf) in
       record {
         toServer = omega arith;
         toClient = simp length-append (omega (arith, given .together, settled-most (serverState s x e) (e .removes), sm .owed));
@@ -247,7 +248,7 @@ module _ (f : Fixed) (size : length (f .mapped) ≡ 4) (octets : every isOctet (
   octet-most server notFull = server-most
 
 pub octet-bound : OctetBound
-octet-bound s d x shape e notFull = octet-most (fixedOf s) (shape .mapped) (shape .octets) (stateOf s) x (small s (sound-words s .0 e)) d notFull
+octet-bound s d x shape e notFull = octet-most (s .fixed) (shape .mapped) (shape .octets) (stateOf s) x (small s (sound-words s .0 e)) d notFull
 
 -- ---- a call goes on
 
@@ -265,13 +266,13 @@ takes-one f d s x xs rs rc e = rw e (omega arith)
 
 module _ (s : Session) (shape : Shaped s) (d x : ℕ) (xs : List ℕ) (rs rc : ℕ) (hs : mostToClient ≤ rs) (hc : mostToClient ≤ rc) where
   abbrev took : Took
-  took = takes (fixedOf s) (sideOf d) (stateOf s) (x ∷ xs) rs rc
+  took = takes (s .fixed) (sideOf d) (stateOf s) (x ∷ xs) rs rc
 
   -- a call that nothing refuses takes its first octet, unless 1 stops it
   pub first-taken : Sound s → isQueueFull (sideOf d) (isPassing (s .control .client .place)) (s .control .owed) ≡ false → 1 ≤ took .taken
   first-taken w notFull =
-      let t : Step = octetStep (fixedOf s) (sideOf d) (stateOf s) x in
-      takes-one (fixedOf s) (sideOf d) (stateOf s) x xs rs rc
+      let t : Step = octetStep (s .fixed) (sideOf d) (stateOf s) x in
+      takes-one (s .fixed) (sideOf d) (stateOf s) x xs rs rc
       (goes-on (sideOf d) (stateOf s) t rs rc notFull (octet-bound s (sideOf d) x shape (sound-words s .1 w) notFull) hs hc)
 
   -- and where 1 stops it, 1 is the answer

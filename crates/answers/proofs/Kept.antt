@@ -24,13 +24,15 @@ use Rattle.upstream.specs.Upstream.{judgedEffect, joinEffect, placeEffect, clie
 use Rattle.downstream.specs.Downstream.{wholeLine, flowingLine, replyOctet, replyEffect, serverEffect}
 use Rattle.octets.proofs.Choices.{either, by-test}
 use Rattle.queue.proofs.Listed.{Listed, listed-push, listed-leave}
-use Rattle.steps.specs.declared.Fixed.{Fixed}
+use Rattle.rules.specs.declared.Fixed.{Fixed}
+use Rattle.rules.specs.declared.Setup.{Setup}
+use Rattle.rules.specs.Setup.{ipv4Width}
 use Rattle.records.specs.declared.Session.{Session}
 use Rattle.steps.specs.Steps.{State, owedThen, leaving, isAuthNext, settledState, clientState, clientEffectIn, clientStep, serverState, serverEffectIn, serverStep, octetStep}
 use Rattle.places.specs.Places.{isHolding, isPassing, directionFromNow}
 use Rattle.records.specs.Sound.{refusalOf}
 use Rattle.steps.specs.Settled.{Settled}
-use Rattle.session.specs.Calls.{stateOf, fixedOf, sessionAfter, Outcome, refused, unlessRefused, outcome, arrived, endStep, endOutcome, endCalled, freshSession}
+use Rattle.session.specs.Calls.{stateOf, sessionAfter, Outcome, refused, unlessRefused, outcome, arrived, endStep, endOutcome, endCalled, freshSession}
 use Rattle.session.specs.Bounds.{Shaped, WritesAtMost}
 use Rattle.steps.proofs.Octets.{length-stored}
 use Rattle.steps.proofs.Turns.{place-owed}
@@ -81,17 +83,17 @@ none-held p = record { most = omega arith; none = λ q. refl }
 one-more : (n : ℕ) → n + 1 < judged → SoundDirection (record { place = Place.Holding; held = n + 1 })
 one-more n h = record { most = omega (arith, judged-held); none = λ q. absurd (q refl) }
 
-place-sound : (address : List ℕ) (supported : Bool) (sw : Switches) (p : Place) (n : ℕ) (h : List ℕ) (b : Bool)
-    → ClientSound (placeEffect address supported sw p n h b)
+place-sound : (f : Fixed) (sw : Switches) (p : Place) (n : ℕ) (h : List ℕ) (b : Bool)
+    → ClientSound (placeEffect f sw p n h b)
 unfolding placeEffect judgedEffect joinEffect
-place-sound address supported sw Place.Holding n h true = record { direction = none-held _ }
-place-sound address supported sw Place.Holding n h false =
+place-sound f sw Place.Holding n h true = record { direction = none-held _ }
+place-sound f sw Place.Holding n h false =
     by-test ClientSound _ _ _ (λ e. record { direction = one-more n (ltb-true (n + 1) judged e) })
     (λ e. either ClientSound _ _ _ (record { direction = none-held _ }) (record { direction = none-held _ }))
-place-sound address supported sw Place.Flowing n h true = record { direction = none-held _ }
-place-sound address supported sw Place.Flowing n h false = record { direction = none-held _ }
-place-sound address supported sw Place.Passing n h b = record { direction = none-held _ }
-place-sound address supported sw Place.Ended n h b = record { direction = none-held _ }
+place-sound f sw Place.Flowing n h true = record { direction = none-held _ }
+place-sound f sw Place.Flowing n h false = record { direction = none-held _ }
+place-sound f sw Place.Passing n h b = record { direction = none-held _ }
+place-sound f sw Place.Ended n h b = record { direction = none-held _ }
 
 reply-sound : (u : Bool) (o : Owes) (p : Place) (n : ℕ) (line : List ℕ) (b : Bool) → ServerSound (replyEffect u o p n line b)
 unfolding replyEffect wholeLine flowingLine replyOctet
@@ -146,8 +148,8 @@ client-turned f s x h notFull =
     let l : List ℕ = take (d .held) (s .command) in
     let e : ClientEffect = clientEffectIn f s x in
     record {
-      queue = push-kept (h .queue) (e .owes) (place-owed (f .client) (f .supported) sw (d .place) (d .held) l (eqb x lf) (s .control .owed) (h .queue .most) notFull);
-      client = place-sound (f .client) (f .supported) sw (d .place) (d .held) l (eqb x lf) .direction;
+      queue = push-kept (h .queue) (e .owes) (place-owed f sw (d .place) (d .held) l (eqb x lf) (s .control .owed) (h .queue .most) notFull);
+      client = place-sound f sw (d .place) (d .held) l (eqb x lf) .direction;
       server = h .server;
       command = length-stored (s .command) (d .held) x (e .gives) ∙ h .command;
       reply = h .reply;
@@ -220,19 +222,19 @@ small s h =
 module _ (c : Situation) (octets : List ℕ) (shape : Shaped (c .session)) where
   kept-before : (k : ℕ) → k ≤ length octets → Takes c octets k → Kept (before c octets k .state)
   kept-before k h t =
-      steps-kept (fixedOf (c .session)) (sideOf (c .direction)) (stateOf (c .session)) octets k h
+      steps-kept (c .session .fixed) (sideOf (c .direction)) (stateOf (c .session)) octets k h
       (kept (c .session) shape (t .accepted .sound)) (λ j l. queue-open c octets j (t .each j l .notFull))
 
   -- "One octet writes at most 512 octets to the server and at most 1,280 to the client": each one that an arrival comes to and 1 does not stop
   pub each-octet : (k : ℕ) → k < length octets → Takes c octets k → (Full c octets k → ⊥) → WritesAtMost (nextStep c octets k)
   each-octet k h t n =
-      octet-most (fixedOf (c .session)) (shape .mapped) (shape .octets) (before c octets k .state) (getD octets k 0)
+      octet-most (c .session .fixed) (shape .mapped) (shape .octets) (before c octets k .state) (getD octets k 0)
       (small (before c octets k .state) (kept-before k (omega arith) t)) (sideOf (c .direction)) (queue-open c octets k n)
 
   -- after each of them nothing is left to settle, so that a run can begin behind it
   pub each-settled : (k : ℕ) → k < length octets → Takes c octets k → (Full c octets k → ⊥) → Settled (nextStep c octets k .state)
   each-settled k h t n =
-      octet-settles (fixedOf (c .session)) (sideOf (c .direction)) (before c octets k .state) (getD octets k 0) (kept-before k (omega arith) t)
+      octet-settles (c .session .fixed) (sideOf (c .direction)) (before c octets k .state) (getD octets k 0) (kept-before k (omega arith) t)
       (queue-open c octets k n)
 
   -- where 1 is given, exactly 16 are owed
@@ -299,10 +301,10 @@ sixteen : 1 ≤ mostOwed
 sixteen = lit≤ tt
 
 -- a fresh session is one
-pub fresh-kept : (address mapped : List ℕ) (flags : ℕ) → length mapped ≡ 4 → every (λ n. leb n 255) mapped ≡ true
-    → Shaped (freshSession address mapped flags) × Sound (freshSession address mapped flags)
+pub fresh-kept : (su : Setup) → length (su .mapped) ≡ ipv4Width → every (λ n. leb n 255) (su .mapped) ≡ true
+    → Shaped (freshSession su) × Sound (freshSession su)
 unfolding freshSession
-fresh-kept address mapped flags size octets = (
+fresh-kept su size octets = (
   record {
     mapped = size;
     octets = octets;

@@ -13,6 +13,7 @@ use Rattle.rules.specs.Commands.{portLine, pasvLine}
 use Rattle.rules.specs.Replies.{extendedPassiveLine, headAnswers}
 use Rattle.rules.specs.declared.Kind.{Kind}
 use Rattle.rules.specs.Answers.{longestAnswer}
+use Rattle.rules.specs.Setup.{ipv4Width}
 use Rattle.octets.proofs.Ranges.{and-both}
 use Rattle.own.proofs.Lengths.{answer-most}
 use Rattle.writers.proofs.Lines.{port-most, extended-passive-most}
@@ -46,7 +47,7 @@ octets-all (n ∷ ns) h = rw (le-leb n 255 (h 0 (omega arith))) (octets-all ns (
 
 -- ---- the lines that the gateway makes
 
-pub port-line : (mapped : List ℕ) (p : ℕ) → length mapped ≡ 4 → every isOctet mapped ≡ true → p ≤ 65535 → length (portLine mapped p) ≤ judged
+pub port-line : (mapped : List ℕ) (p : ℕ) → length mapped ≡ ipv4Width → every isOctet mapped ≡ true → p ≤ 65535 → length (portLine mapped p) ≤ judged
 port-line mapped p size octets small =
     omega (arith, judged-most, port-most mapped p size (λ i. omega (arith, octet-at mapped i octets)) (omega arith))
 

@@ -32,6 +32,7 @@ use Rattle.rules.specs.declared.EprtArgument.{EprtArgument}
 use Rattle.rules.specs.declared.AlgsArgument.{AlgsArgument}
 use Rattle.rules.specs.declared.Command.{Command}
 use Rattle.rules.specs.declared.PassiveReply.{PassiveReply}
+use Rattle.rules.specs.declared.Fixed.{Fixed}
 use Rattle.octets.proofs.Runs.{every-append}
 use Rattle.octets.proofs.Choices.{either}
 use Rattle.address.proofs.Numbers.{number-le}
@@ -99,19 +100,19 @@ algs-small supported sw AlgsArgument.Enable64 = answered _
 algs-small supported sw AlgsArgument.Disable64 = answered _
 algs-small supported sw AlgsArgument.Other = answered _
 
-word-small : (client : List ℕ) (supported : Bool) (sw : Switches) (w : CommandWord) (a : List ℕ)
-    → SmallCommand (wordCommand client supported sw w a)
+word-small : (f : Fixed) (sw : Switches) (w : CommandWord) (a : List ℕ)
+    → SmallCommand (wordCommand f sw w a)
 unfolding wordCommand
-word-small client supported sw CommandWord.Epsv a = either SmallCommand _ _ _ (epsv-small (epsvArgument a)) passes
-word-small client supported sw CommandWord.Eprt a =
-    either SmallCommand _ _ _ (eprt-small (eprtArgument client a) (argument-small client a)) passes
-word-small client supported sw CommandWord.Algs a = algs-small supported sw (algsArgument a)
-word-small client supported sw CommandWord.Auth a = auth
-word-small client supported sw CommandWord.Other a = passes
+word-small f sw CommandWord.Epsv a = either SmallCommand _ _ _ (epsv-small (epsvArgument a)) passes
+word-small f sw CommandWord.Eprt a =
+    either SmallCommand _ _ _ (eprt-small (eprtArgument (f .client) a) (argument-small (f .client) a)) passes
+word-small f sw CommandWord.Algs a = algs-small (f .supported) sw (algsArgument a)
+word-small f sw CommandWord.Auth a = auth
+word-small f sw CommandWord.Other a = passes
 
-pub command-small : (client : List ℕ) (supported : Bool) (sw : Switches) (l : List ℕ) → SmallCommand (command client supported sw l)
+pub command-small : (f : Fixed) (sw : Switches) (l : List ℕ) → SmallCommand (command f sw l)
 unfolding command
-command-small client supported sw l = word-small client supported sw _ _
+command-small f sw l = word-small f sw _ _
 
 -- ---- a 227 line
 

@@ -28,7 +28,7 @@ use Rattle.steps.specs.Takes.{Took, takes}
 use Rattle.steps.specs.Settled.{Settled}
 use Rattle.arrivals.specs.Runs.{lineOf, holdsMore}
 use Rattle.arrivals.proofs.Runs.{Open, holds-run}
-use Rattle.session.specs.Calls.{stateOf, fixedOf, sessionAfter, unlessRefused, outcome, arrived, calls-opened}
+use Rattle.session.specs.Calls.{stateOf, sessionAfter, unlessRefused, outcome, arrived, calls-opened}
 use Rattle.answers.specs.Reached.{Writes, fresh, enough, arrive, times, longest, longLine, begun, sixteenAnswers}
 
 -- an arrival of octets that are all held: the record then
@@ -41,8 +41,8 @@ module _ (s : Session) (d : ℕ) (xs : List ℕ) (m n : ℕ) (free : refusalOf s
   all-held =
       rw free
       (ap (λ (t : Took). outcome s (sideOf d) t .called .session)
-      (ap (λ (l : List ℕ). takes (fixedOf s) (sideOf d) (stateOf s) l m n) (sym (append-nil xs))
-      ∙ holds-run (fixedOf s) (sideOf d) (stateOf s) quiet holds free-of-1 xs [] m n run few room))
+      (ap (λ (l : List ℕ). takes (s .fixed) (sideOf d) (stateOf s) l m n) (sym (append-nil xs))
+      ∙ holds-run (s .fixed) (sideOf d) (stateOf s) quiet holds free-of-1 xs [] m n run few room))
 
 -- "at most 512 octets to the server"
 pub server-most-is : mostToServer ≡ 512

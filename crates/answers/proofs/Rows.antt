@@ -15,7 +15,7 @@ use Rattle.rules.specs.declared.Answer.{Answer}
 use Rattle.records.specs.declared.Session.{Session}
 use Rattle.steps.specs.Steps.{State, Step}
 use Rattle.records.specs.Sound.{refusalOf}
-use Rattle.session.specs.Calls.{stateOf, fixedOf, sessionAfter, Outcome, refused, unlessRefused, outcome, arrived, endStep, endOutcome, endCalled}
+use Rattle.session.specs.Calls.{stateOf, sessionAfter, Outcome, refused, unlessRefused, outcome, arrived, endStep, endOutcome, endCalled}
 use Rattle.steps.specs.Takes.{Took, takes}
 use Rattle.answers.specs.Table.{
   Situation,
@@ -160,16 +160,16 @@ accepted-outcome c w o = rw (not-refused c w (refusalOf (c .session) (c .directi
 
 module _ (c : Situation) (octets : List ℕ) where
   abbrev pub took : Took
-  took = takes (fixedOf (c .session)) (sideOf (c .direction)) (stateOf (c .session)) octets (c .serverRoom) (c .clientRoom)
+  took = takes (c .session .fixed) (sideOf (c .direction)) (stateOf (c .session)) octets (c .serverRoom) (c .clientRoom)
 
   abbrev pub result : Outcome
   result = outcome (c .session) (sideOf (c .direction)) took
 
-  pub it-takes : Taking (fixedOf (c .session)) (sideOf (c .direction)) (stateOf (c .session)) octets (c .serverRoom) (c .clientRoom) took
-  it-takes = taking (fixedOf (c .session)) (sideOf (c .direction)) (stateOf (c .session)) octets (c .serverRoom) (c .clientRoom)
+  pub it-takes : Taking (c .session .fixed) (sideOf (c .direction)) (stateOf (c .session)) octets (c .serverRoom) (c .clientRoom) took
+  it-takes = taking (c .session .fixed) (sideOf (c .direction)) (stateOf (c .session)) octets (c .serverRoom) (c .clientRoom)
 
   abbrev pub ItsLast : Type 0
-  ItsLast = Last (fixedOf (c .session)) (sideOf (c .direction)) (stateOf (c .session)) octets (c .serverRoom) (c .clientRoom) (took .taken) (took .answer)
+  ItsLast = Last (c .session .fixed) (sideOf (c .direction)) (stateOf (c .session)) octets (c .serverRoom) (c .clientRoom) (took .taken) (took .answer)
 
   goes-on : (j : ℕ) → (stopsAt c octets j ≡ none) ↔ NotStopped c octets j
   goes-on j =

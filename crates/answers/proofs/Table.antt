@@ -10,6 +10,7 @@ use Rattle.rules.specs.Octets.{choose}
 use Rattle.rules.specs.Answers.{sideOf, answerNumber}
 use Rattle.rules.specs.Setup.{badFlags, setupAnswer}
 use Rattle.rules.specs.declared.Answer.{Answer}
+use Rattle.rules.specs.declared.Setup.{Setup}
 use Rattle.session.specs.declared.Prepared.{Prepared}
 use Rattle.steps.specs.Takes.{takes}
 use Rattle.session.specs.Calls.{Outcome, refused, unlessRefused, outcome, arrived, endCalled, freshSession, deadSession, prepared}
@@ -173,12 +174,15 @@ module _ (c : Situation) where
 
 -- ---- setup
 
-module _ (address mapped : List ℕ) (flags : ℕ) where
+module _ (su : Setup) where
+  abbrev flags : ℕ
+  flags = su .flags
+
   abbrev setupBy : Bool → Prepared
-  setupBy b = record { answer = choose b Answer.BadSetup Answer.Done; session = choose b deadSession (freshSession address mapped flags) }
+  setupBy b = record { answer = choose b Answer.BadSetup Answer.Done; session = choose b deadSession (freshSession su) }
 
   -- 5: "an undefined flag bit, or EPRT on and not supported"
-  pub five : (answerNumber (prepared address mapped flags .answer) ≡ 5) ↔ BadFlags flags
+  pub five : (answerNumber (prepared su .answer) ≡ 5) ↔ BadFlags flags
   unfolding prepared setupAnswer choose answerNumber
   five = by-flags (badFlags flags) refl
     where
@@ -187,7 +191,7 @@ module _ (address mapped : List ℕ) (flags : ℕ) where
       by-flags false e = ((λ p. absurd (omega arith)), (λ w. absurd (true≢false (sym (flags-words flags .1 w) ∙ e))))
 
   -- "With 5 the record is not live and otherwise all zero"
-  pub five-dead : answerNumber (prepared address mapped flags .answer) ≡ 5 → prepared address mapped flags .session ≡ deadSession
+  pub five-dead : answerNumber (prepared su .answer) ≡ 5 → prepared su .session ≡ deadSession
   unfolding prepared setupAnswer choose answerNumber
   five-dead p = by-flags (badFlags flags) p
     where
@@ -196,10 +200,10 @@ module _ (address mapped : List ℕ) (flags : ℕ) where
       by-flags false e = absurd (omega arith)
 
   -- a setup that does not answer 5 answers 0, and its record is a fresh session
-  pub setup-zero : (BadFlags flags → ⊥) → prepared address mapped flags ≡ record { answer = Answer.Done; session = freshSession address mapped flags }
+  pub setup-zero : (BadFlags flags → ⊥) → prepared su ≡ record { answer = Answer.Done; session = freshSession su }
   unfolding prepared setupAnswer choose
   setup-zero n = by-flags (badFlags flags) refl
     where
-      by-flags : (b : Bool) → badFlags flags ≡ b → setupBy b ≡ record { answer = Answer.Done; session = freshSession address mapped flags }
+      by-flags : (b : Bool) → badFlags flags ≡ b → setupBy b ≡ record { answer = Answer.Done; session = freshSession su }
       by-flags true e = absurd (n (flags-words flags .0 e))
       by-flags false e = refl

@@ -13,11 +13,11 @@ use borrow.Author.Tests.{leb-true, leb-false, ltb-true, ltb-false}
 use Rattle.rules.specs.Answers.{Side, client, sideOf, answerNumber, mostOwed, isQueueFull, fits, stop}
 use Rattle.rules.specs.declared.Answer.{Answer}
 use Rattle.places.specs.declared.Place.{Place}
-use Rattle.steps.specs.declared.Fixed.{Fixed}
+use Rattle.rules.specs.declared.Fixed.{Fixed}
 use Rattle.steps.specs.Steps.{State, Step, octetStep}
 use Rattle.places.specs.Places.{isPassing}
 use Rattle.steps.specs.Takes.{Took, tookNothing, andThen, stopOf, takes}
-use Rattle.session.specs.Calls.{stateOf, fixedOf}
+use Rattle.session.specs.Calls.{stateOf}
 use Rattle.steps.proofs.Stops.{fits-room, stop-cases, unless-stopped}
 use Rattle.answers.specs.Table.{Situation, octetSteps, before, nextStep, Full, Exceeds}
 
@@ -216,7 +216,7 @@ full-not (suc d) p owed b e t z n m = omega arith
 
 module _ (c : Situation) (octets : List ℕ) where
   abbrev pub stopsAt : ℕ → Option Answer
-  stopsAt k = stopAt (fixedOf (c .session)) (sideOf (c .direction)) (stateOf (c .session)) octets (c .serverRoom) (c .clientRoom) k
+  stopsAt k = stopAt (c .session .fixed) (sideOf (c .direction)) (stateOf (c .session)) octets (c .serverRoom) (c .clientRoom) k
 
   pub stop-words : (k : ℕ) → Stops (Full c octets k) (Exceeds c octets k) (stopsAt k)
   unfolding stopOf

@@ -7,13 +7,14 @@ use Rattle.rules.specs.Octets.{oct, lf, space}
 use Rattle.rules.specs.Answers.{mostOwed}
 use Rattle.rules.specs.Lines.{mostHeld}
 use Rattle.rules.specs.declared.Answer.{Answer}
+use Rattle.rules.specs.Setup.{ipv6Width, ipv4Width}
 use Rattle.records.specs.declared.Session.{Session}
 use Rattle.session.specs.declared.Called.{Called}
 use Rattle.session.specs.Calls.{freshSession, arrived}
 
 -- a fresh session: its addresses are zeros, and only EPSV translation is on
 abbrev pub fresh : Session
-fresh = freshSession (replicate 16 0) (replicate 4 0) 1
+fresh = freshSession (record { client = replicate ipv6Width 0; mapped = replicate ipv4Width 0; flags = 1 })
 
 -- the room in each buffer: enough for what one octet can write
 abbrev pub enough : ℕ

@@ -11,11 +11,11 @@ use Rattle.rules.specs.Setup.{eprtOn, eprtSupported}
 use Rattle.queue.specs.Kinds.{lastCode}
 use Rattle.places.specs.declared.Place.{Place}
 use Rattle.places.specs.declared.Direction.{Direction}
-use Rattle.steps.specs.declared.Fixed.{Fixed}
+use Rattle.rules.specs.declared.Fixed.{Fixed}
 use Rattle.records.specs.declared.Session.{Session}
 use Rattle.steps.specs.Steps.{State, Step, heldOf, octetStep}
 use Rattle.records.specs.Sound.{directionOf}
-use Rattle.session.specs.Calls.{stateOf, fixedOf, sessionAfter, Outcome, arrived, endCalled, endStep}
+use Rattle.session.specs.Calls.{stateOf, sessionAfter, Outcome, arrived, endCalled, endStep}
 
 -- ---- calls
 
@@ -98,11 +98,11 @@ octetSteps f d s (x ∷ xs) =
 module _ (c : Situation) (octets : List ℕ) where
   -- what the first k octets make
   abbrev pub before : ℕ → Step
-  before k = octetSteps (fixedOf (c .session)) (sideOf (c .direction)) (stateOf (c .session)) (take k octets)
+  before k = octetSteps (c .session .fixed) (sideOf (c .direction)) (stateOf (c .session)) (take k octets)
 
   -- what the next one makes then
   abbrev pub nextStep : ℕ → Step
-  nextStep k = octetStep (fixedOf (c .session)) (sideOf (c .direction)) (before k .state) (getD octets k 0)
+  nextStep k = octetStep (c .session .fixed) (sideOf (c .direction)) (before k .state) (getD octets k 0)
 
   -- 1: "next octet is the client's, no AUTH yet, 16 replies owed"; after AUTH the client's octets pass at once
   pub record Full (k : ℕ) : Type 0 where

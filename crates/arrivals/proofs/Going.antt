@@ -14,7 +14,7 @@ use Rattle.rules.specs.declared.Answer.{Answer}
 use Rattle.records.specs.Layout.{lentSize}
 use Rattle.output.specs.Buffer.{putAt}
 use Rattle.records.specs.declared.Control.{Control}
-use Rattle.steps.specs.declared.Fixed.{Fixed}
+use Rattle.rules.specs.declared.Fixed.{Fixed}
 use Rattle.steps.specs.declared.Written.{Written}
 use Rattle.steps.specs.Steps.{State, Step, octetStep}
 use Rattle.places.specs.Places.{isPassing}

@@ -7,7 +7,7 @@ use borrow.Rule.Slice.PartMut.{midOf}
 use Rattle.rules.specs.Answers.{Side}
 use Rattle.records.specs.Layout.{lentCommand, lentSize}
 use Rattle.records.specs.declared.Control.{Control}
-use Rattle.steps.specs.declared.Fixed.{Fixed}
+use Rattle.rules.specs.declared.Fixed.{Fixed}
 use Rattle.steps.specs.declared.Written.{Written}
 use Rattle.steps.specs.Steps.{State}
 use Rattle.steps.specs.Takes.{coreFrom, coreIn, kindsLent, coreLent}

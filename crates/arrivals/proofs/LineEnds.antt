@@ -17,7 +17,7 @@ use Rattle.queue.specs.Kinds.{codeOf, pushed, isStill}
 use Rattle.commands.specs.Plain.{isPlain}
 use Rattle.commands.proofs.Words.{plain-passes}
 use Rattle.upstream.specs.Upstream.{commandEffect, judgedEffect, placeEffect, clientEffect}
-use Rattle.steps.specs.declared.Fixed.{Fixed}
+use Rattle.rules.specs.declared.Fixed.{Fixed}
 use Rattle.steps.specs.Steps.{State, stored, owedThen, clientEffectIn, clientState, clientStep, octetStep}
 use Rattle.steps.specs.Settled.{Settled}
 use Rattle.queue.proofs.Still.{still-answers, still-auth}
@@ -60,8 +60,8 @@ module _ (f : Fixed) (s : State) (place : s .control .client .place ≡ Place.Ho
   client-line =
       let c = s .control in
       let h = take (c .client .held) (s .command) in
-      let e = ap (λ (p : Place). placeEffect (f .client) (f .supported) (c .switches) p (c .client .held) h true) place
-      ∙ ap (judgedEffect (c .switches)) (plain-passes (f .client) (f .supported) (c .switches) h plain) in
+      let e = ap (λ (p : Place). placeEffect f (c .switches) p (c .client .held) h true) place
+      ∙ ap (judgedEffect (c .switches)) (plain-passes f (c .switches) h plain) in
       let settled = still-settled plainNext (pushed-still (s .kinds) (c .owed) still) in
       rw e (λ i. record {
         state = settles-same plainNext settled i;

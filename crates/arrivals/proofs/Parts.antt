@@ -16,7 +16,7 @@ use Rattle.output.specs.Buffer.{putAt, positionAfter}
 use Rattle.output.proofs.Placing.{length-put, take-put-at, after-fits, nothing-put, put-after}
 use Rattle.places.specs.declared.Place.{Place}
 use Rattle.places.specs.Places.{at}
-use Rattle.steps.specs.declared.Fixed.{Fixed}
+use Rattle.rules.specs.declared.Fixed.{Fixed}
 use Rattle.steps.specs.declared.Written.{Written}
 use Rattle.steps.specs.Steps.{State, octetStep}
 use Rattle.records.specs.Sound.{Counted}

@@ -22,7 +22,7 @@ use Rattle.places.specs.Places.{at}
 use Rattle.commands.specs.Plain.{isPlain}
 use Rattle.records.specs.declared.Control.{Control}
 use Rattle.records.specs.Controls.{withClient}
-use Rattle.steps.specs.declared.Fixed.{Fixed}
+use Rattle.rules.specs.declared.Fixed.{Fixed}
 use Rattle.steps.specs.declared.Written.{Written}
 use Rattle.arrivals.specs.declared.plain.Said.{Said}
 use Rattle.steps.specs.Steps.{State}

@@ -31,7 +31,7 @@ use Rattle.queue.proofs.Listed.{length-shifted}
 use Rattle.downstream.specs.Downstream.{serverEffectOf, kindRemoved, headRemoved, lineRemoves, kindEffect, headEffect, lineGives, wholeLine, replyEffect, serverEffect}
 use Rattle.records.specs.declared.Control.{Control}
 use Rattle.records.specs.Controls.{withServer}
-use Rattle.steps.specs.declared.Fixed.{Fixed}
+use Rattle.rules.specs.declared.Fixed.{Fixed}
 use Rattle.steps.specs.declared.Written.{Written}
 use Rattle.arrivals.specs.declared.plain.Answered.{Answered}
 use Rattle.records.specs.Sound.{blocked}

@@ -20,7 +20,7 @@ use Rattle.places.specs.declared.Place.{Place}
 use Rattle.places.specs.declared.Direction.{Direction}
 use Rattle.places.specs.Places.{at, isPassing}
 use Rattle.records.specs.Sound.{directionOf}
-use Rattle.steps.specs.declared.Fixed.{Fixed}
+use Rattle.rules.specs.declared.Fixed.{Fixed}
 use Rattle.steps.specs.Steps.{State, Step, octetStep}
 use Rattle.steps.specs.Takes.{Took, andThen, unlessStopped, stopOf, takes}
 use Rattle.steps.specs.Settled.{Settled}

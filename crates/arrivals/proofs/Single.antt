@@ -19,7 +19,7 @@ use Rattle.queue.specs.declared.Owes.{Owes}
 use Rattle.queue.specs.Kinds.{pushed, headOf}
 use Rattle.upstream.specs.Upstream.{clientEffectOf, joinEffect, placeEffect, clientEffect}
 use Rattle.downstream.specs.Downstream.{serverEffectOf, replyOctet, replyEffect, serverEffect}
-use Rattle.steps.specs.declared.Fixed.{Fixed}
+use Rattle.rules.specs.declared.Fixed.{Fixed}
 use Rattle.records.specs.Sound.{blocked}
 use Rattle.steps.specs.Steps.{State, Step, stored, owedThen, clientEffectIn, clientState, clientStep, serverEffectIn, serverState, serverStep, octetStep}
 use Rattle.steps.specs.Settled.{Through, throughPassing, throughEnded, Settled}
@@ -45,13 +45,13 @@ module _ (f : Fixed) (s : State) (x : ℕ) where
       → Settled (withCommand s d (stored (s .command) (s .control .client .held) x g))
       → octetStep f client s x
       ≡ stepTo (withCommand s d (stored (s .command) (s .control .client .held) x g))
-      (givesText (f .mapped) (take (s .control .client .held) (s .command)) x g) []
+      (givesText f (take (s .control .client .held) (s .command)) x g) []
   unfolding octetStep clientStep clientState owedThen pushed
   client-step g d e settled =
       let t = withCommand s d (stored (s .command) (s .control .client .held) x g) in
       rw e (λ i. record {
         state = settles-same t settled i;
-        toServer = givesText (f .mapped) (take (s .control .client .held) (s .command)) x g;
+        toServer = givesText f (take (s .control .client .held) (s .command)) x g;
         toClient = settles-silent t settled i;
       })
 
@@ -61,7 +61,7 @@ module _ (f : Fixed) (s : State) (x : ℕ) where
     client-passes p =
         let e : clientEffectIn f s x ≡ clientEffectOf Gives.Octet (at Place.Passing 0)
         (s .control .switches) Owes.Nothing =
-        ap (λ (d : Direction). clientEffect (f .client) (f .supported) (s .control .switches) d (s .command) x) p in
+        ap (λ (d : Direction). clientEffect f (s .control .switches) d (s .command) x) p in
         client-step Gives.Octet (at Place.Passing 0) e (client-kept s settled (at Place.Passing 0) (s .command))
         ∙ (λ i. stepTo (withCommand s (sym p i) (s .command)) (x ∷ []) [])
 
@@ -71,7 +71,7 @@ module _ (f : Fixed) (s : State) (x : ℕ) where
     client-flows p n =
         let e : clientEffectIn f s x ≡ clientEffectOf Gives.Octet (at Place.Flowing 0)
         (s .control .switches) Owes.Nothing =
-        (λ i. placeEffect (f .client) (f .supported) (s .control .switches) (p i .place) (p i .held)
+        (λ i. placeEffect f (s .control .switches) (p i .place) (p i .held)
         (take (p i .held) (s .command)) (n i)) in
         client-step Gives.Octet (at Place.Flowing 0) e (client-kept s settled (at Place.Flowing 0) (s .command))
         ∙ (λ i. stepTo (withCommand s (sym p i) (s .command)) (x ∷ []) [])
@@ -86,7 +86,7 @@ module _ (f : Fixed) (s : State) (x : ℕ) where
         let k = s .control .client .held in
         let d = at Place.Holding (k + 1) in
         let e : clientEffectIn f s x ≡ clientEffectOf Gives.Held d (s .control .switches) Owes.Nothing =
-        (λ i. placeEffect (f .client) (f .supported) (s .control .switches) (p i) k (take k (s .command)) (n i))
+        (λ i. placeEffect f (s .control .switches) (p i) k (take k (s .command)) (n i))
         ∙ choose-true _ _ (lt-ltb (k + 1) judged h) in
         client-step Gives.Held d e (client-kept s settled d (set (s .command) k x))
 
@@ -112,14 +112,14 @@ module _ (f : Fixed) (s : State) (x : ℕ) where
       → Settled (withReply s d (stored (s .reply) (s .control .server .held) x g))
       → octetStep f server s x
       ≡ stepTo (withReply s d (stored (s .reply) (s .control .server .held) x g)) []
-      (givesText (f .mapped) (take (s .control .server .held) (s .reply)) x g ++ [])
+      (givesText f (take (s .control .server .held) (s .reply)) x g ++ [])
   unfolding octetStep serverStep serverState
   server-step g d e settled =
       let t = withReply s d (stored (s .reply) (s .control .server .held) x g) in
       rw e (λ i. record {
         state = settles-same t settled i;
         toServer = [];
-        toClient = givesText (f .mapped) (take (s .control .server .held) (s .reply)) x g ++ settles-silent t settled i;
+        toClient = givesText f (take (s .control .server .held) (s .reply)) x g ++ settles-silent t settled i;
       })
 
   module _ (settled : Settled s) where

@@ -13,7 +13,7 @@ use Rattle.places.specs.declared.Place.{Place}
 use Rattle.places.specs.Places.{at}
 use Rattle.records.specs.declared.Control.{Control}
 use Rattle.records.specs.Controls.{withClient, withServer}
-use Rattle.steps.specs.declared.Fixed.{Fixed}
+use Rattle.rules.specs.declared.Fixed.{Fixed}
 use Rattle.arrivals.specs.declared.plain.Said.{Said}
 use Rattle.arrivals.specs.declared.plain.Answered.{Answered}
 use Rattle.steps.specs.Takes.{addressesLent, kindsLent, coreLent}

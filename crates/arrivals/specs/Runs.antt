@@ -9,7 +9,7 @@ use Rattle.places.specs.declared.Place.{Place}
 use Rattle.places.specs.declared.Direction.{Direction}
 use Rattle.records.specs.Sound.{directionOf, Counted}
 use Rattle.places.specs.Places.{at}
-use Rattle.steps.specs.declared.Fixed.{Fixed}
+use Rattle.rules.specs.declared.Fixed.{Fixed}
 use Rattle.steps.specs.Steps.{State}
 use Rattle.steps.specs.declared.Written.{Written}
 use Rattle.records.specs.declared.Control.{Control}

@@ -4,7 +4,7 @@ ghost use Prim.Native.Nat.{_≤_};
 ghost use lib.ListN.{length};
 ghost use Rattle.records.specs.Layout.{lentSize};
 ghost use Rattle.records.specs.Sound.{Counted, sideIf};
-ghost use Rattle.steps.specs.declared.Fixed.{Fixed};
+ghost use Rattle.rules.specs.declared.Fixed.{Fixed};
 ghost use Rattle.steps.specs.Takes.{takes, tookIn, fixedLent, addressesLent, stateLent, coreLent, Given};
 ghost use Rattle.steps.specs.Core.{Bounded};
 ghost use Rattle.arrivals.specs.Runs.{Ran};

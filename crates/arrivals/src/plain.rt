@@ -11,7 +11,7 @@ ghost use Rattle.rules.specs.Replies.{leavesUnfinished};
 ghost use Rattle.rules.specs.Answers.{client, server, mostOwed};
 ghost use Rattle.rules.specs.Lines.{mostHeld};
 ghost use Rattle.records.specs.Layout.{lentSize};
-ghost use Rattle.steps.specs.declared.Fixed.{Fixed};
+ghost use Rattle.rules.specs.declared.Fixed.{Fixed};
 ghost use Rattle.records.specs.Sound.{sideIf, Counted};
 ghost use Rattle.steps.specs.Takes.{addressesLent, coreLent, kindsLent};
 ghost use Rattle.steps.specs.Core.{Bounded};

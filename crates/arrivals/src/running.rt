@@ -11,7 +11,7 @@ ghost use Rattle.rules.specs.Lines.{mostHeld};
 ghost use Rattle.records.specs.Layout.{linesSize};
 ghost use Rattle.output.specs.Buffer.{putAt};
 ghost use Rattle.places.specs.Places.{at, isPassing as passes};
-ghost use Rattle.steps.specs.declared.Fixed.{Fixed};
+ghost use Rattle.rules.specs.declared.Fixed.{Fixed};
 ghost use Rattle.steps.specs.Core.{Bounded};
 ghost use Rattle.arrivals.specs.Runs.{Quiet, Ran, ClientRan, ServerRan};
 ghost use Rattle.records.specs.Sound.{sideIf};

@@ -7,6 +7,7 @@ ghost use lib.ListN.{length};
 use libc::STDIN_FILENO;
 use libc::STDOUT_FILENO;
 use records::Session;
+use rules::SETUP;
 use rules::number_of;
 use session::Called;
 use session::DirectionOffset;
@@ -48,15 +49,11 @@ fn script_end(input: &[u8], at: usize) -> usize
 
 // Runs a script twice: its results are measured before they are written.
 fn run_script(script: &[u8]) {
-    if script.len() < 21 {
+    if script.len() < SETUP {
         write_number(0);
         return;
     }
-    let mut client = [0u8; 16];
-    let mut mapped = [0u8; 4];
-    output::put(&mut client, 0, first(script, 16));
-    output::put(&mut mapped, 0, first(after(script, 16), 4));
-    let p = session::setup(client, mapped, octet(script, 20));
+    let p = session::setup_from(first(script, SETUP));
     let answer = p.answer;
     let start = p.session;
     let length = run_calls(start, script, false);
@@ -71,7 +68,7 @@ fn run_calls(start: Session, script: &[u8], writes: bool) -> u32 {
     let mut to_client = io::large_buffer();
     let mut session = start;
     let mut length = 0;
-    let mut at = 21;
+    let mut at = SETUP;
     let mut next = call_end(script, at);
     while at < next {
         let called = run_call(session, &script[at..next], &mut to_server, &mut to_client);

@@ -12,6 +12,7 @@ use Rattle.rules.specs.Commands.{commandWord, wordCommand, command}
 use Rattle.rules.specs.declared.Switches.{Switches}
 use Rattle.rules.specs.declared.CommandWord.{CommandWord}
 use Rattle.rules.specs.declared.Command.{Command}
+use Rattle.rules.specs.declared.Fixed.{Fixed}
 use Rattle.commands.specs.Plain.{isOther, isPlain}
 use Rattle.octets.proofs.Words.{alike-lengths}
 
@@ -21,24 +22,24 @@ unfolding startsAuth
 auth-short l h = rw (take-all 5 l (omega arith)) (sym (alike-lengths l (oct "AUTH ") (λ e. omega arith)))
 
 -- the line l with the content t, which begins with the command k, and the argument a
-pub by-word : (client : List ℕ) (supported : Bool) (sw : Switches) (l : List ℕ) {t a : List ℕ} {k : CommandWord} → t ≡ content l → a ≡ argument t → k ≡ commandWord (word t) → wordCommand client supported sw k a ≡ command client supported sw l
+pub by-word : (f : Fixed) (sw : Switches) (l : List ℕ) {t a : List ℕ} {k : CommandWord} → t ≡ content l → a ≡ argument t → k ≡ commandWord (word t) → wordCommand f sw k a ≡ command f sw l
 unfolding command
-by-word client supported sw l et ea ek = rw (ek, ea, et)
+by-word f sw l et ea ek = rw (ek, ea, et)
 
 -- whether that line is plain
 pub by-plain : (l : List ℕ) {t : List ℕ} {k : CommandWord} → t ≡ content l → k ≡ commandWord (word t) → isOther k ≡ isPlain l
 unfolding isPlain
 by-plain l et ek = rw (ek, et)
 
-other-passes : (client : List ℕ) (supported : Bool) (sw : Switches) (k : CommandWord) (a : List ℕ) → isOther k ≡ true → wordCommand client supported sw k a ≡ Command.Passes
+other-passes : (f : Fixed) (sw : Switches) (k : CommandWord) (a : List ℕ) → isOther k ≡ true → wordCommand f sw k a ≡ Command.Passes
 unfolding wordCommand isOther
-other-passes client supported sw CommandWord.Epsv a h = cc
-other-passes client supported sw CommandWord.Eprt a h = cc
-other-passes client supported sw CommandWord.Algs a h = cc
-other-passes client supported sw CommandWord.Auth a h = cc
-other-passes client supported sw CommandWord.Other a h = refl
+other-passes f sw CommandWord.Epsv a h = cc
+other-passes f sw CommandWord.Eprt a h = cc
+other-passes f sw CommandWord.Algs a h = cc
+other-passes f sw CommandWord.Auth a h = cc
+other-passes f sw CommandWord.Other a h = refl
 
 -- a plain line passes, whoever the client is and whatever is on
-pub plain-passes : (client : List ℕ) (supported : Bool) (switches : Switches) (line : List ℕ) → isPlain line ≡ true → command client supported switches line ≡ Command.Passes
+pub plain-passes : (f : Fixed) (switches : Switches) (line : List ℕ) → isPlain line ≡ true → command f switches line ≡ Command.Passes
 unfolding command isPlain
-plain-passes client supported switches line h = other-passes client supported switches (commandWord (word (content line))) (argument (content line)) h
+plain-passes f switches line h = other-passes f switches (commandWord (word (content line))) (argument (content line)) h

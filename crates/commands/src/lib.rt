@@ -13,6 +13,7 @@ use rules::Command;
 use rules::CommandWord;
 use rules::EprtArgument;
 use rules::EpsvArgument;
+use rules::Fixed;
 use rules::OwnAnswer;
 use rules::Switches;
 
@@ -162,14 +163,15 @@ fn algs_command(argument: &[u8], supported: bool, switches: Switches) -> Command
 }
 
 // What a line judged whole is to the gateway; it is given without its LF.
-pub fn command(line: &[u8], client: [u8; 16], supported: bool, switches: Switches) -> Command
-    ensures { λ r. ⌜ r ≡ commandOf client supported switches (now (line .entry)) ⌝ }
+pub fn command(line: &[u8], fixed: Fixed, switches: Switches) -> Command
+    ensures { λ r. ⌜ r ≡ commandOf fixed switches (now (line .entry)) ⌝ }
 {
+    let client = fixed.client;
     let content = lines::content(line);
     match content_word(content) {
         CommandWord::Epsv => epsv_command(switches.epsv, lines::argument(content)),
         CommandWord::Eprt => eprt_command(switches.eprt, lines::argument(content), client),
-        CommandWord::Algs => algs_command(lines::argument(content), supported, switches),
+        CommandWord::Algs => algs_command(lines::argument(content), fixed.supported, switches),
         CommandWord::Auth => Command::Auth,
         CommandWord::Other => Command::Passes,
     }

@@ -7,7 +7,7 @@ use lib.ListN.{getD, take, drop}
 use Rattle.rules.specs.Octets.{oct, lf, space, choose, isEmpty, within, decimal}
 use Rattle.rules.specs.Answers.{answerNumber}
 use Rattle.records.specs.declared.Session.{Session}
-use Rattle.session.specs.Calls.{Outcome, prepared, arrived, endCalled, deadSession}
+use Rattle.session.specs.Calls.{Outcome, preparedFrom, arrived, endCalled, deadSession}
 use Rattle.files.specs.declared.Verdict.{Verdict}
 use Rattle.files.specs.Contents.{Entry, count, tableEnd, tableOf, verdict, verdictNumber}
 
@@ -62,7 +62,7 @@ doneBy o =
 -- what a setup did, by its body: "the client's IPv6 address .., its mapped IPv4 address .. and a flag octet"
 unfoldable pub setUp : List ℕ → Done
 setUp body =
-    let p = prepared (take 16 body) (take 4 (drop 16 body)) (getD body 20 0) in
+    let p = preparedFrom body in
     record { taken = 0; number = answerNumber (p .answer); toServer = []; toClient = []; session = p .session }
 
 -- kinds 0 and 1 are arrivals, 2 and 3 ends, 4 the setup

@@ -9,6 +9,7 @@ use lib.ListN.{length, drop}
 use lib.Seq.{drop-drop}
 use borrow.Author.Tests.{leb-true, eqb-true, not-false}
 use Rattle.rules.specs.Octets.{choose, within}
+use Rattle.rules.specs.Setup.{setupSize}
 use Rattle.octets.proofs.Ranges.{and-both}
 use Rattle.files.specs.declared.Verdict.{Verdict}
 use Rattle.files.specs.Contents.{Entry, entryOf, entries, count, tableEnd, tableOf, isSetup, goodLength, goodEntry, noSetups, goodTable, bodiesLength, verdict}
@@ -18,14 +19,14 @@ use Rattle.files.specs.Contents.{Entry, entryOf, entries, count, tableEn
 -- "each 0 to 1,024 .. each length 0 .. 21 octets"
 pub record Right (e : Entry) : Type 0 where
   pub most : e .length ≤ 1024
-  pub setup : 4 ≤ e .kind → e .length ≡ 21
+  pub setup : 4 ≤ e .kind → e .length ≡ setupSize
 
-by-kind : (k n : ℕ) (a b : Bool) → leb k 1 ≡ a → leb k 3 ≡ b → choose a (leb n 1024) (choose b (eqb n 0) (isSetup k && eqb n 21)) ≡ true
-    → (n ≤ 1024) × (4 ≤ k → n ≡ 21)
+by-kind : (k n : ℕ) (a b : Bool) → leb k 1 ≡ a → leb k 3 ≡ b → choose a (leb n 1024) (choose b (eqb n 0) (isSetup k && eqb n setupSize)) ≡ true
+    → (n ≤ 1024) × (4 ≤ k → n ≡ setupSize)
 unfolding choose
 by-kind k n true b p q h = (leb-true n 1024 h, λ (t : 4 ≤ k). absurd (omega (arith, leb-true k 1 p)))
 by-kind k n false true p q h = let z = eqb-true n 0 h in (omega arith, λ (t : 4 ≤ k). absurd (omega (arith, leb-true k 3 q)))
-by-kind k n false false p q h = let z = eqb-true n 21 (and-both (isSetup k) (eqb n 21) h .1) in (omega arith, λ (t : 4 ≤ k). z)
+by-kind k n false false p q h = let z = eqb-true n setupSize (and-both (isSetup k) (eqb n setupSize) h .1) in (omega arith, λ (t : 4 ≤ k). z)
 
 pub right : (e : Entry) → goodEntry e ≡ true → Right e
 unfolding goodEntry goodLength

@@ -9,6 +9,7 @@ use lib.ListN.{length, getD, take, drop}
 use lib.Seq.{drop-drop, getD-take, length-take-le}
 use borrow.Author.Tests.{leb-true, eqb-true, ne-eqb, le-ltb, not-false}
 use Rattle.rules.specs.Octets.{choose, within}
+use Rattle.rules.specs.Setup.{setupSize}
 use Rattle.octets.proofs.Ranges.{and-both}
 use Rattle.files.specs.declared.Verdict.{Verdict}
 use Rattle.files.specs.Contents.{Entry, pairAt, entryOf, entries, count, tableEnd, tableOf, isSetup, goodEntry, noSetups, goodTable, bodiesLength, longestFile, verdict, LongerSame}
@@ -27,7 +28,7 @@ others-most (e ∷ es) (suc n) h m =
     let rest = others-most es n (w .1) (omega arith) in
     omega arith
 
-table-most : (es : List Entry) → goodTable es ≡ true → length es ≤ 48 → bodiesLength es ≤ 21 + 47 * 1024
+table-most : (es : List Entry) → goodTable es ≡ true → length es ≤ 48 → bodiesLength es ≤ setupSize + 47 * 1024
 unfolding goodTable bodiesLength
 table-most [] h m = omega arith
 table-most (e ∷ es) h m =

@@ -10,6 +10,7 @@ use lib.ListN.{length, getD, drop, List·getD-eq-default}
 use lib.Seq.{getD-drop, drop-drop}
 use borrow.Author.Tests.{le-leb, lt-leb, lt-ltb, le-ltb, eq-eqb, ne-eqb}
 use Rattle.rules.specs.Octets.{choose, within}
+use Rattle.rules.specs.Setup.{setupSize}
 use Rattle.octets.proofs.Ranges.{is-within}
 use Rattle.files.specs.declared.Verdict.{Verdict}
 use Rattle.files.specs.Contents.{Entry, pairAt, entryOf, entries, count, tableEnd, tableOf, goodLength, goodEntry, noSetups, goodTable, bodiesLength, verdict}
@@ -59,7 +60,7 @@ module _ (file : List ℕ) (at : ℕ) where
     unfolding goodLength choose
     good-arrival h = zero-right ∙ rw (le-leb (getD file at 0) 1 h)
 
-    pub good-setup : getD file at 0 ≡ 4 → goodEntry (entryOf (drop at file)) ≡ eqb n 21
+    pub good-setup : getD file at 0 ≡ 4 → goodEntry (entryOf (drop at file)) ≡ eqb n setupSize
     unfolding goodLength choose
     good-setup k = zero-right ∙ rw k
 

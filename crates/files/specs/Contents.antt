@@ -6,6 +6,7 @@ use Prim.Native.Nat.{ℕ, zero, suc, _+_, _*_, _<_}
 use lib.Dec.{eqb, leb, ltb}
 use lib.ListN.{length, getD, take, drop}
 use Rattle.rules.specs.Octets.{choose, within}
+use Rattle.rules.specs.Setup.{setupSize}
 use Rattle.files.specs.declared.Verdict.{Verdict}
 
 -- "high octet first": the number of the two octets at a position
@@ -48,7 +49,7 @@ unfoldable pub goodLength : ℕ → ℕ → Bool
 goodLength kind n =
     choose (leb kind 1) (leb n 1024)
     (choose (leb kind 3) (eqb n 0)
-    (isSetup kind && eqb n 21))
+    (isSetup kind && eqb n setupSize))
 
 -- not "kind, .. zero octet or length wrong"
 unfoldable pub goodEntry : Entry → Bool
@@ -71,7 +72,7 @@ bodiesLength (e ∷ es) = e .length + bodiesLength es
 
 -- the largest session file: the count, 48 entries of the table, a setup and 47 bodies of 1,024
 unfoldable pub longestFile : ℕ
-longestFile = 2 + 4 * 48 + 21 + 47 * 1024
+longestFile = 2 + 4 * 48 + setupSize + 47 * 1024
 
 -- "Order: two octets present, count, table present, entries, total"
 unfoldable pub verdict : List ℕ → Verdict

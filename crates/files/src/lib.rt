@@ -3,6 +3,7 @@ ghost use mathlib.Core.Path.{_≡_};
 ghost use Prim.Native.Nat.{_+_, _<_, _≤_};
 ghost use lib.ListN.{length, getD, drop};
 ghost use Rattle.files.specs.Contents.{pairAt, entryOf, goodEntry, verdict};
+use rules::SETUP;
 
 // A session file is refused with number 7 or 8, or it is one.
 pub enum Verdict {
@@ -49,7 +50,7 @@ fn good_entry(file: &[u8], at: usize) -> bool
         return octets == 0;
     }
     if kind == 4 {
-        return octets == 21;
+        return octets == SETUP;
     }
     false
 }

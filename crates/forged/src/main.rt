@@ -9,13 +9,20 @@ use places::Place;
 use records::Control;
 use records::Session;
 use rules::HELD;
+use rules::IPV4;
+use rules::IPV6;
+use rules::Setup;
 use rules::number_of;
 use session::Called;
 
 const SIZE: usize = 600;
 
 fn main() {
-    let fresh = session::setup([0u8; 16], [0u8; 4], 7).session;
+    let fresh = session::setup(Setup {
+        client: [0u8; IPV6],
+        mapped: [0u8; IPV4],
+        flags: 7,
+    }).session;
     io::write_all(STDOUT_FILENO, b"refused\n");
     try_all(dead(fresh));
     try_all(with_control(fresh, owing(fresh, 17)));

@@ -3,18 +3,19 @@ use mathlib.Core.List.{List, [], _∷_, _++_}
 use Prim.Native.Nat.{ℕ}
 use Rattle.rules.specs.Lines.{passed}
 use Rattle.rules.specs.Commands.{pasvLine, portLine}
+use Rattle.rules.specs.declared.Fixed.{Fixed}
 use Rattle.rules.specs.Replies.{extendedPassiveLine}
 use Rattle.gives.specs.declared.Gives.{Gives}
 
 -- the octets that are given: h are the held ones, x the octet
-unfoldable pub givesText : List ℕ → List ℕ → ℕ → Gives → List ℕ
-givesText mapped h x Gives.Held = []
-givesText mapped h x Gives.Nothing = []
-givesText mapped h x Gives.Octet = x ∷ []
-givesText mapped h x Gives.HeldAndOctet = passed h ++ (x ∷ [])
-givesText mapped h x Gives.Pasv = pasvLine
-givesText mapped h x (Gives.Port p) = portLine mapped p
-givesText mapped h x (Gives.ExtendedPassive p) = extendedPassiveLine p
+unfoldable pub givesText : Fixed → List ℕ → ℕ → Gives → List ℕ
+givesText f h x Gives.Held = []
+givesText f h x Gives.Nothing = []
+givesText f h x Gives.Octet = x ∷ []
+givesText f h x Gives.HeldAndOctet = passed h ++ (x ∷ [])
+givesText f h x Gives.Pasv = pasvLine
+givesText f h x (Gives.Port p) = portLine (f .mapped) p
+givesText f h x (Gives.ExtendedPassive p) = extendedPassiveLine p
 
 -- this page's definitions, for a proof that computes with them
 unfoldable pub gives-opened : Unit {0}

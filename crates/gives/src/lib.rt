@@ -5,6 +5,7 @@ ghost use lib.ListN.{length};
 ghost use Rattle.rules.specs.Lines.{passed};
 ghost use Rattle.output.specs.Buffer.{putAt, positionAfter};
 ghost use Rattle.gives.specs.Text.{givesText};
+use rules::Fixed;
 
 // What an octet gives: nothing since it is held; nothing; itself; the held octets and itself; or a line of the gateway's.
 pub enum Gives {
@@ -18,9 +19,10 @@ pub enum Gives {
 }
 
 // How many octets are given.
-pub fn gives_length(gives: Gives, mapped: [u8; 4], held: &[u8], x: u8) -> usize
-    ensures { λ r. ⌜ r ≡ length (givesText mapped (now (held .entry)) x gives) ⌝ }
+pub fn gives_length(gives: Gives, fixed: Fixed, held: &[u8], x: u8) -> usize
+    ensures { λ r. ⌜ r ≡ length (givesText fixed (now (held .entry)) x gives) ⌝ }
 {
+    let mapped = fixed.mapped;
     match gives {
         Gives::Held => 0,
         Gives::Nothing => 0,
@@ -33,17 +35,11 @@ pub fn gives_length(gives: Gives, mapped: [u8; 4], held: &[u8], x: u8) -> usize
 }
 
 // The octets given are put into a buffer; where they do not fit, nothing is.
-pub fn put_gives(
-    out: &mut [u8],
-    at: usize,
-    gives: Gives,
-    mapped: [u8; 4],
-    held: &[u8],
-    x: u8,
-) -> usize
-    ensures { λ r. ⌜ r ≡ positionAfter (now (out .entry)) at (givesText mapped (now (held .entry)) x gives) ⌝ }
-    ensures { λ r. ⌜ now (out .exit) ≡ putAt (now (out .entry)) at (givesText mapped (now (held .entry)) x gives) ⌝ }
+pub fn put_gives(out: &mut [u8], at: usize, gives: Gives, fixed: Fixed, held: &[u8], x: u8) -> usize
+    ensures { λ r. ⌜ r ≡ positionAfter (now (out .entry)) at (givesText fixed (now (held .entry)) x gives) ⌝ }
+    ensures { λ r. ⌜ now (out .exit) ≡ putAt (now (out .entry)) at (givesText fixed (now (held .entry)) x gives) ⌝ }
 {
+    let mapped = fixed.mapped;
     match gives {
         Gives::Held => at,
         Gives::Nothing => at,

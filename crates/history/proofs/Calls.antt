@@ -13,11 +13,11 @@ use Rattle.rules.specs.Demand3.{Call, arrival, ending, endIfDone, isRefusal}
 use Rattle.rules.specs.declared.Answer.{Answer}
 use Rattle.places.specs.declared.Place.{Place}
 use Rattle.records.specs.declared.Session.{Session}
-use Rattle.steps.specs.declared.Fixed.{Fixed}
+use Rattle.rules.specs.declared.Fixed.{Fixed}
 use Rattle.steps.specs.Steps.{State, Step, octetStep}
 use Rattle.places.specs.Places.{isEnded}
 use Rattle.records.specs.Sound.{directionOf, sound, refusalOf}
-use Rattle.session.specs.Calls.{stateOf, fixedOf, takenFor, sessionAfter, Outcome, refused, unlessRefused, outcome, arrived, endStep, endOutcome, endCalled as sessionEnded}
+use Rattle.session.specs.Calls.{stateOf, takenFor, sessionAfter, Outcome, refused, unlessRefused, outcome, arrived, endStep, endOutcome, endCalled as sessionEnded}
 use Rattle.steps.specs.Takes.{Took, stopOf, takes}
 use Rattle.records.proofs.Refusals.{refusal-cases}
 use Rattle.steps.proofs.Stops.{unless-stopped}
@@ -72,14 +72,14 @@ module _ {f : Fixed} {rules : LineRules} (agree : Agrees f rules) where
   -- the record, and the states of the reading
   pub record Stays (r : Session) (c : Client rules) (v : ServerState) : Type 0 where
     pub live : r .live ≡ true
-    pub fixed : fixedOf r ≡ f
+    pub fixed : r .fixed ≡ f
     pub alike : Alike agree (stateOf r) c v
 
   -- a call that adds these items to the history
   pub record Makes (r : Session) (c : Client rules) (v : ServerState) (is : List Item) (o : Outcome) : Type 0 where
     pub done : Done agree c v is (o .toServer) (o .toClient) (stateOf (o .called .session))
     pub live : o .called .session .live ≡ true
-    pub fixed : fixedOf (o .called .session) ≡ f
+    pub fixed : o .called .session .fixed ≡ f
     pub writtenServer : o .called .written .server ≡ length (o .toServer)
     pub writtenClient : o .called .written .client ≡ length (o .toClient)
     pub up : (t w : ℕ) → Counted (r .up) t w → Counted (o .called .session .up) (t + takenFrom client is) (w + length (o .toServer))
@@ -153,10 +153,10 @@ module _ (f : Fixed) (rules : LineRules) (agree : Agrees f rules) where
   makes r c v (arrival d xs bs bc) s =
       unless-refused (λ o. Makes agree r c v (map (octet (sideOf d)) (take (o .called .taken) xs)) o) r d _
       (λ a e. makes-nothing r c v a s)
-      (λ e. makes-outcome r c v (sideOf d) _ (takes (fixedOf r) (sideOf d) (stateOf r) xs (length bs) (length bc)) s
-      (arrival-done (fixedOf r) (s .fixed) (sideOf d) (stateOf r) c v xs (length bs) (length bc) (s .alike) (may-arrive (sideOf d) (stateOf r) c v (s .alike) e))
-      (octets-taken client (sideOf d) (fixedOf r) (stateOf r) xs (length bs) (length bc))
-      (octets-taken server (sideOf d) (fixedOf r) (stateOf r) xs (length bs) (length bc)))
+      (λ e. makes-outcome r c v (sideOf d) _ (takes (r .fixed) (sideOf d) (stateOf r) xs (length bs) (length bc)) s
+      (arrival-done (r .fixed) (s .fixed) (sideOf d) (stateOf r) c v xs (length bs) (length bc) (s .alike) (may-arrive (sideOf d) (stateOf r) c v (s .alike) e))
+      (octets-taken client (sideOf d) (r .fixed) (stateOf r) xs (length bs) (length bc))
+      (octets-taken server (sideOf d) (r .fixed) (stateOf r) xs (length bs) (length bc)))
   makes r c v (ending d bs bc) s =
       unless-refused (λ o. Makes agree r c v (endIfDone (o .called .answer) (sideOf d)) o) r d _
       (λ a e. rw (refused-items a (sideOf d) e) (makes-nothing r c v a s))

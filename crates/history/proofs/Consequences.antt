@@ -36,10 +36,10 @@ use Rattle.rules.specs.Demand3.{
 use Rattle.rules.proofs.Consequences.{any-same-client, any-same-history}
 use Rattle.rules.specs.declared.Answer.{Answer}
 use Rattle.records.specs.declared.Session.{Session}
-use Rattle.steps.specs.declared.Fixed.{Fixed}
+use Rattle.rules.specs.declared.Fixed.{Fixed}
 use Rattle.steps.specs.Steps.{State, Step, octetStep}
 use Rattle.steps.specs.Takes.{Took, stopOf, takes}
-use Rattle.session.specs.Calls.{stateOf, fixedOf, Outcome, refused, outcome, arrived, endOutcome, endCalled as sessionEnded}
+use Rattle.session.specs.Calls.{stateOf, Outcome, refused, outcome, arrived, endOutcome, endCalled as sessionEnded}
 use Rattle.steps.proofs.Stops.{stop-cases, unless-stopped}
 use Rattle.history.specs.Gateway.{outcomeOf, gateway}
 use Rattle.history.proofs.ByOctets.{reading-grows}
@@ -104,7 +104,7 @@ if-refused : (r : Session) (c : Call) → IfRefused r (outcomeOf r c)
 unfolding outcomeOf arrived sessionEnded outcome
 if-refused r (arrival d xs s c) =
     unless-refused (IfRefused r) r d _ (λ a e h. refused-same r a)
-    (λ e h. absurd (true≢false (sym h ∙ takes-answer (fixedOf r) (sideOf d) (stateOf r) xs (length s) (length c))))
+    (λ e h. absurd (true≢false (sym h ∙ takes-answer (r .fixed) (sideOf d) (stateOf r) xs (length s) (length c))))
 if-refused r (ending d s c) = unless-refused (IfRefused r) r d _ (λ a e h. refused-same r a) (λ e h. end-answer r (sideOf d) _ _ h)
 
 pub refusals-leave-all : RefusalsLeaveAll gateway

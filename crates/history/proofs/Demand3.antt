@@ -11,7 +11,8 @@ use borrow.Author.Tests.{le-leb}
 use Rattle.rules.specs.Octets.{choose}
 use Rattle.rules.specs.Answers.{Side, client, server, soundHeld, soundRecord, mostOwed}
 use Rattle.rules.specs.Lines.{judged, mostHeld}
-use Rattle.rules.specs.Setup.{Setup, setupSwitches}
+use Rattle.rules.specs.Setup.{setupSwitches, fixedBy}
+use Rattle.rules.specs.declared.Setup.{Setup}
 use Rattle.rules.specs.Edition.{LineRules, document01}
 use Rattle.rules.specs.History.{Item, textOf, hasEnded, takenFrom}
 use Rattle.rules.specs.ToServer.{toServer as readServer}
@@ -46,7 +47,7 @@ use Rattle.rules.specs.Demand3.{
 }
 use Rattle.places.specs.declared.Place.{Place}
 use Rattle.records.specs.declared.Session.{Session}
-use Rattle.steps.specs.declared.Fixed.{Fixed}
+use Rattle.rules.specs.declared.Fixed.{Fixed}
 use Rattle.session.specs.Calls.{Outcome, freshSession, offset}
 use Rattle.places.specs.Places.{isHolding}
 use Rattle.records.specs.Sound.{sound, soundDirection}
@@ -57,7 +58,7 @@ use Rattle.history.proofs.Places.{Stands, holding, flowing, passing, en
 use Rattle.history.proofs.Items.{Silent, toServerFrom}
 use Rattle.history.proofs.Counts.{Counted, counted-fresh, counted-offset, text-append}
 use Rattle.history.proofs.Calls.{itemsOf, Stays, Makes, makes}
-use Rattle.history.proofs.Fresh.{fixedBy, agrees, fresh-is, fresh-stays}
+use Rattle.history.proofs.Fresh.{agrees, fresh-is, fresh-stays}
 
 -- ---- a call that was made, by its promise
 
@@ -139,7 +140,7 @@ module _ (f : Fixed) (rules : LineRules) (agree : Agrees f rules) where
 
 -- the record that setup returns with 0
 abbrev freshOf : Setup → Session
-freshOf su = freshSession (su .client) (su .mapped) (su .flags)
+freshOf su = freshSession su
 
 fresh-holds : (su : Setup) (r z : Session) (l : List (Made gateway)) → Fresh su r → Calls gateway r l z
     → Holds (fixedBy su) (document01 su) (agrees su) (freshOf su) (freshClient (setupSwitches (su .flags))) freshServer l z

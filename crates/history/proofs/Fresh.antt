@@ -7,7 +7,8 @@ use native.Mathlib.Omega.{arith}
 use lib.ListN.{drop, length-replicate}
 use Rattle.rules.specs.Octets.{lf, choose}
 use Rattle.rules.specs.Lines.{judged, mostHeld, content}
-use Rattle.rules.specs.Setup.{Setup, eprtSupported, setupSwitches, badFlags, setupAnswer}
+use Rattle.rules.specs.Setup.{setupSwitches, badFlags, setupAnswer, fixedBy}
+use Rattle.rules.specs.declared.Setup.{Setup}
 use Rattle.rules.specs.Answers.{answerNumber}
 use Rattle.rules.specs.Commands.{command, commandGives}
 use Rattle.rules.specs.Replies.{passiveReply, passiveGives, finalGives}
@@ -22,46 +23,42 @@ use Rattle.records.specs.declared.Session.{Session}
 use Rattle.gives.specs.Text.{givesText}
 use Rattle.upstream.specs.Upstream.{commandEffect}
 use Rattle.downstream.specs.Downstream.{kindEffect, passiveEffect}
-use Rattle.steps.specs.declared.Fixed.{Fixed}
+use Rattle.rules.specs.declared.Fixed.{Fixed}
 use Rattle.session.specs.Calls.{Outcome, prepared, freshSession}
 use Rattle.history.specs.Gateway.{Fresh, Promise, outcomeOf}
 use Rattle.history.proofs.Queue.{queue-fresh}
 use Rattle.history.proofs.Places.{Agrees, begins}
 use Rattle.history.proofs.Calls.{Stays}
 
--- what a setup fixes in the record
-abbrev pub fixedBy : Setup → Fixed
-fixedBy su = record { client = su .client; mapped = su .mapped; supported = eprtSupported (su .flags) }
-
-command-gives : (mapped l : List ℕ) (k : Command) → givesText mapped l lf (commandEffect k) ≡ commandGives mapped l k
+command-gives : (f : Fixed) (l : List ℕ) (k : Command) → givesText f l lf (commandEffect k) ≡ commandGives f l k
 unfolding givesText commandEffect commandGives
-command-gives mapped l Command.Passes = refl
-command-gives mapped l Command.Passive = refl
-command-gives mapped l (Command.Port p) = refl
-command-gives mapped l (Command.Answered a) = refl
-command-gives mapped l Command.Auth = refl
+command-gives f l Command.Passes = refl
+command-gives f l Command.Passive = refl
+command-gives f l (Command.Port p) = refl
+command-gives f l (Command.Answered a) = refl
+command-gives f l Command.Auth = refl
 
-passive-gives : (mapped l : List ℕ) (r : PassiveReply) → givesText mapped l lf (passiveEffect r) ≡ passiveGives l r
+passive-gives : (f : Fixed) (l : List ℕ) (r : PassiveReply) → givesText f l lf (passiveEffect r) ≡ passiveGives l r
 unfolding givesText passiveEffect passiveGives
-passive-gives mapped l (PassiveReply.Port p) = refl
-passive-gives mapped l PassiveReply.Unreadable = refl
+passive-gives f l (PassiveReply.Port p) = refl
+passive-gives f l PassiveReply.Unreadable = refl
 
-final-gives : (mapped : List ℕ) (k : Kind) (l : List ℕ) → givesText mapped l lf (kindEffect k (content l)) ≡ finalGives k l
+final-gives : (f : Fixed) (k : Kind) (l : List ℕ) → givesText f l lf (kindEffect k (content l)) ≡ finalGives k l
 unfolding givesText kindEffect finalGives
-final-gives mapped Kind.Plain l = refl
-final-gives mapped Kind.TranslatedEpsv l = passive-gives mapped l (passiveReply (content l))
-final-gives mapped (Kind.Own a) l = refl
-final-gives mapped Kind.Auth l = refl
+final-gives f Kind.Plain l = refl
+final-gives f Kind.TranslatedEpsv l = passive-gives f l (passiveReply (content l))
+final-gives f (Kind.Own a) l = refl
+final-gives f Kind.Auth l = refl
 
 pub agrees : (su : Setup) → Agrees (fixedBy su) (document01 su)
 unfolding clientLineOf
 agrees su =
     record {
       Tied = λ sw st. sw ≡ st;
-      gives = λ sw st e l. rw e (command-gives (su .mapped) l (command (su .client) (eprtSupported (su .flags)) st l));
+      gives = λ sw st e l. rw e (command-gives (fixedBy su) l (command (fixedBy su) st l));
       owes = λ sw st e l. rw e;
       after = λ sw st e l. rw e;
-      final = λ k l. final-gives (su .mapped) k l;
+      final = λ k l. final-gives (fixedBy su) k l;
     }
 
 -- ---- a fresh session
@@ -74,7 +71,7 @@ good-flags false e = refl
 -- a setup that answers 0 has a record, and no other has one
 pub fresh-there : (su : Setup) → setupAnswer (su .flags) ≡ Answer.Done → (r : Session) × Fresh su r
 unfolding prepared
-fresh-there su e = (prepared (su .client) (su .mapped) (su .flags) .session, record { answer = e; session = refl })
+fresh-there su e = (prepared su .session, record { answer = e; session = refl })
 
 pub only-fresh : (su : Setup) (r : Session) → Fresh su r → setupAnswer (su .flags) ≡ Answer.Done
 unfolding prepared
@@ -96,12 +93,12 @@ returns r c =
       record { answer = refl; taken = refl; toServer = refl; toClient = refl; session = refl; serverBuffer = refl; clientBuffer = refl },
     )
 
-pub fresh-is : (su : Setup) (r : Session) → Fresh su r → r ≡ freshSession (su .client) (su .mapped) (su .flags)
+pub fresh-is : (su : Setup) (r : Session) → Fresh su r → r ≡ freshSession su
 unfolding prepared setupAnswer choose
 fresh-is su r h = h .session ∙ rw (good-flags (badFlags (su .flags)) (h .answer))
 
 pub fresh-stays : (su : Setup)
-    → Stays (agrees su) (freshSession (su .client) (su .mapped) (su .flags)) (freshClient (setupSwitches (su .flags))) freshServer
+    → Stays (agrees su) (freshSession su) (freshClient (setupSwitches (su .flags))) freshServer
 unfolding freshSession agrees judged
 fresh-stays su =
     record {

@@ -50,7 +50,7 @@ use Rattle.gives.specs.Text.{givesText}
 use Rattle.places.specs.Places.{at, isFlowingOrEnded, directionFromNow}
 use Rattle.upstream.specs.Upstream.{commandEffect, judgedEffect, joinEffect, placeEffect, clientEffectOf}
 use Rattle.downstream.specs.Downstream.{passiveEffect, kindEffect, headEffect, lineGives, wholeLine, flowingLine, replyOctet, replyEffect}
-use Rattle.steps.specs.declared.Fixed.{Fixed}
+use Rattle.rules.specs.declared.Fixed.{Fixed}
 use Rattle.steps.specs.Steps.{stored}
 use Rattle.history.specs.ByOctets.{lineEndGives, clientGives}
 use Rattle.history.proofs.ByOctets.{
@@ -136,12 +136,12 @@ length-joined line n x f h = length-snoc (take n line) x ∙ rw (length-take-le 
 pub record Agrees (f : Fixed) (rules : LineRules) : Type 1 where
   pub Tied : Switches → rules .LineState → Type 0
   pub gives : (sw : Switches) (st : rules .LineState) → Tied sw st → (l : List ℕ)
-      → givesText (f .mapped) l lf (commandEffect (command (f .client) (f .supported) sw l)) ≡ rules .clientLine st l .toServer
+      → givesText f l lf (commandEffect (command f sw l)) ≡ rules .clientLine st l .toServer
   pub owes : (sw : Switches) (st : rules .LineState) → Tied sw st → (l : List ℕ)
-      → commandOwes (command (f .client) (f .supported) sw l) ≡ rules .clientLine st l .owes
+      → commandOwes (command f sw l) ≡ rules .clientLine st l .owes
   pub after : (sw : Switches) (st : rules .LineState) → Tied sw st → (l : List ℕ)
-      → Tied (commandSwitches sw (command (f .client) (f .supported) sw l)) (rules .clientLine st l .after)
-  pub final : (k : Kind) (l : List ℕ) → givesText (f .mapped) l lf (kindEffect k (content l)) ≡ rules .finalLine k l
+      → Tied (commandSwitches sw (command f sw l)) (rules .clientLine st l .after)
+  pub final : (k : Kind) (l : List ℕ) → givesText f l lf (kindEffect k (content l)) ≡ rules .finalLine k l
 
 -- ---- the reply that a flowing line belongs to is known by its first four octets
 
@@ -154,7 +154,7 @@ reply-flowing line l h e = ap replyLine e ∙ sym (by-first-four l h)
 module _ {f : Fixed} {rules : LineRules} (agree : Agrees f rules) where
   pub record ClientFits (line : List ℕ) (n x : ℕ) (e : ClientEffect) (text : List ℕ) (j : ClientStep (rules .LineState))
       : Type 0 where
-    pub gives : givesText (f .mapped) (take n line) x (e .gives) ≡ text
+    pub gives : givesText f (take n line) x (e .gives) ≡ text
     pub tied : agree .Tied (e .switches) (j .state .lineState)
     pub owes : owesList (e .owes) ≡ j .owes
     pub full : Full (stored line n x (e .gives))
@@ -162,7 +162,7 @@ module _ {f : Fixed} {rules : LineRules} (agree : Agrees f rules) where
 
 module _ (f : Fixed) where
   pub record ServerFits (line : List ℕ) (n x : ℕ) (ks : List Kind) (e : ServerEffect) (t : ServerStep) : Type 0 where
-    pub gives : givesText (f .mapped) (take n line) x (e .gives) ≡ t .gives
+    pub gives : givesText f (take n line) x (e .gives) ≡ t .gives
     pub owed : drop (e .removes) ks ≡ t .state .owed
     pub unfinished : e .unfinished ≡ t .state .unfinished
     pub full : Full (stored line n x (e .gives))
@@ -185,7 +185,7 @@ module _ (f : Fixed) (rules : LineRules) (agree : Agrees f rules) where
   after-line line false = begins line
 
   command-fits : (sw : Switches) (line : List ℕ) (n : ℕ) → Full line → (k : Command) (j : ClientLine (rules .LineState))
-      → givesText (f .mapped) (take n line) lf (commandEffect k) ≡ j .toServer → commandOwes k ≡ j .owes
+      → givesText f (take n line) lf (commandEffect k) ≡ j .toServer → commandOwes k ≡ j .owes
       → agree .Tied (commandSwitches sw k) (j .after)
       → ClientFits agree line n lf (judgedEffect sw k) (j .toServer) (finishes j)
   unfolding judgedEffect finishes
@@ -200,13 +200,13 @@ module _ (f : Fixed) (rules : LineRules) (agree : Agrees f rules) where
 
   module _ (sw : Switches) (st : rules .LineState) (tied : agree .Tied sw st) where
     line-fits : (line : List ℕ) (n : ℕ) → Full line → n < judged
-        → ClientFits agree line n lf (judgedEffect sw (command (f .client) (f .supported) sw (take n line)))
+        → ClientFits agree line n lf (judgedEffect sw (command f sw (take n line)))
         (lineEndGives rules st (take n line)) (finishes (finishedLine rules st (take n line)))
     unfolding lineEndGives choose
     line-fits line n full h =
         let short : length (take n line) < judged = omega (arith, length-take-le n line (omega arith)) in
         rw (finished-whole rules st (take n line) short, whole (take n line) short)
-        (command-fits sw line n full (command (f .client) (f .supported) sw (take n line)) (rules .clientLine st (take n line))
+        (command-fits sw line n full (command f sw (take n line)) (rules .clientLine st (take n line))
         (agree .gives sw st tied (take n line)) (agree .owes sw st tied (take n line)) (agree .after sw st tied (take n line)))
 
     -- another octet, with which the line is not yet let go
@@ -243,7 +243,7 @@ module _ (f : Fixed) (rules : LineRules) (agree : Agrees f rules) where
         (starts (take n line) (x ∷ []) (omega (arith, six, length-take-le n line (omega arith)))))
 
     held-octet-fits : (line : List ℕ) (n x : ℕ) → Full line → n < judged → (b : Bool) → eqb x lf ≡ b
-        → ClientFits agree line n x (placeEffect (f .client) (f .supported) sw Place.Holding n (take n line) b)
+        → ClientFits agree line n x (placeEffect f sw Place.Holding n (take n line) b)
         (choose b (lineEndGives rules st (take n line)) (lineOctetGives (joined line n x) x))
         (choose b (finishes (finishedLine rules st (take n line))) (joins st (joined line n x)))
     unfolding placeEffect choose
@@ -251,7 +251,7 @@ module _ (f : Fixed) (rules : LineRules) (agree : Agrees f rules) where
     held-octet-fits line n x full h false p = join-fits line n x full h (ltb (n + 1) judged) refl
 
     flowing-fits : (line l : List ℕ) (x : ℕ) → Full line → judged ≤ length l → startsAuth l ≡ false → (b : Bool) → eqb x lf ≡ b
-        → ClientFits agree line 0 x (placeEffect (f .client) (f .supported) sw Place.Flowing 0 [] b)
+        → ClientFits agree line 0 x (placeEffect f sw Place.Flowing 0 [] b)
         (choose b (lineEndGives rules st l) (lineOctetGives (l ++ (x ∷ [])) x))
         (choose b (finishes (finishedLine rules st l)) (joins st (l ++ (x ∷ []))))
     unfolding placeEffect choose lineEndGives finishes longOwes lineOctetGives joins givesText stored
@@ -264,7 +264,7 @@ module _ (f : Fixed) (rules : LineRules) (agree : Agrees f rules) where
         (record { gives = refl; tied = tied; owes = refl; full = full; place = flowing more (starts l (x ∷ []) (omega (arith, six)) ∙ a) })
 
     pub client-fits : {p : Place} {n : ℕ} {line : List ℕ} {q : Reading} → Stands NoAuth p n line q → Full line → (x : ℕ)
-        → ClientFits agree line n x (placeEffect (f .client) (f .supported) sw p n (take n line) (eqb x lf)) (clientGives rules st q x) (clientOctet rules st q x)
+        → ClientFits agree line n x (placeEffect f sw p n (take n line) (eqb x lf)) (clientGives rules st q x) (clientOctet rules st q x)
     unfolding clientGives clientOctet placeEffect givesText stored
     client-fits (holding {n = n} {line = line} h) full x = held-octet-fits line n x full h (eqb x lf) refl
     client-fits (flowing {line = line} {l = l} k a) full x = flowing-fits line l x full k a (eqb x lf) refl
@@ -294,7 +294,7 @@ module _ (f : Fixed) (rules : LineRules) (agree : Agrees f rules) where
   stored-line line n x ReplyLine.Final false ks c = stored-first line n x ks c
 
   -- what a line judged whole gives
-  line-gives : (h : List ℕ) (r : ReplyLine) (u : Bool) (ks : List Kind) → givesText (f .mapped) h lf (lineGives r u (firstOf ks) (content h)) ≡ wholeLineGives rules ks u h r
+  line-gives : (h : List ℕ) (r : ReplyLine) (u : Bool) (ks : List Kind) → givesText f h lf (lineGives r u (firstOf ks) (content h)) ≡ wholeLineGives rules ks u h r
   unfolding lineGives headEffect wholeLineGives finalLineGives givesText choose
   line-gives h ReplyLine.GoesOn u ks = refl
   line-gives h ReplyLine.Preliminary u ks = refl

@@ -30,7 +30,7 @@ use Rattle.downstream.specs.declared.ServerEffect.{ServerEffect}
 use Rattle.queue.specs.Kinds.{headOf}
 use Rattle.upstream.specs.Upstream.{clientEffect}
 use Rattle.downstream.specs.Downstream.{serverEffect}
-use Rattle.steps.specs.declared.Fixed.{Fixed}
+use Rattle.rules.specs.declared.Fixed.{Fixed}
 use Rattle.steps.specs.Steps.{State, Step, owedThen, settledState, clientState, clientEffectIn, clientStep, serverState, serverEffectIn, serverStep, octetStep}
 use Rattle.places.specs.Places.{isPassing}
 use Rattle.steps.specs.Takes.{Took, stopOf, takes}
@@ -90,7 +90,7 @@ unfolding clientEffectIn clientEffect
 room f s x most e =
     let d : Direction = s .control .client in
     room-for (s .control .owed) (clientEffectIn f s x .owes)
-    (place-owed (f .client) (f .supported) (s .control .switches) (d .place) (d .held) (take (d .held) (s .command)) (eqb x lf) (s .control .owed) most e)
+    (place-owed f (s .control .switches) (d .place) (d .held) (take (d .held) (s .command)) (eqb x lf) (s .control .owed) most e)
 
 -- the side that arrives has not ended
 abbrev pub MaySpeak : {S : Type 0} → Side → ClientState S → Type 0

@@ -77,7 +77,7 @@ gone r (p ∷ ps) =
 -- an exchange as the calls have it, after the greeting
 unfoldable pub calledAs : (List Item → List Piece) → Exchange → Exchange
 calledAs cut e =
-    let g = gone (prepared (allOn .client) (allOn .mapped) (allOn .flags) .session) (cut (serverSays greeting ++ e .said)) in
+    let g = gone (prepared allOn .session) (cut (serverSays greeting ++ e .said)) in
     exchange (e .said) (g .0) (g .1)
 
 -- both ways to cut it

@@ -4,7 +4,7 @@ use mathlib.Core.List.{List, _++_}
 use Prim.Native.Nat.{ℕ}
 use lib.ListN.{length, drop}
 use Rattle.rules.specs.Answers.{Side, client, server}
-use Rattle.rules.specs.Setup.{Setup}
+use Rattle.rules.specs.declared.Setup.{Setup}
 use Rattle.rules.specs.Demand3.{Call, arrival, ending, Return, Gateway, lentServer, lentClient}
 use Rattle.rules.specs.declared.Answer.{Answer}
 use Rattle.records.specs.declared.Session.{Session}
@@ -14,8 +14,8 @@ use Rattle.session.specs.Calls.{Outcome, prepared, arrived, endCalled as sessio
 
 -- "the record of a setup that answered 0". Nothing is asked of the addresses: the arrays of the record have their lengths from setup on
 pub record Fresh (su : Setup) (r : Session) : Type 0 where
-  pub answer : prepared (su .client) (su .mapped) (su .flags) .answer ≡ Answer.Done
-  pub session : r ≡ prepared (su .client) (su .mapped) (su .flags) .session
+  pub answer : prepared su .answer ≡ Answer.Done
+  pub session : r ≡ prepared su .session
 
 -- what arrive and end do by the session's definitions
 unfoldable pub outcomeOf : Session → Call → Outcome

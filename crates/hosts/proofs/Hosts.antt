@@ -8,13 +8,14 @@ use lib.Dec.{leb}
 use lib.ListN.{length, replicate, length-replicate}
 use Rattle.rules.specs.Answers.{answerNumber}
 use Rattle.rules.specs.Octets.{every}
-use Rattle.rules.specs.Setup.{Setup, setupAnswer}
+use Rattle.rules.specs.Setup.{setupSize, setupIn, setupAnswer}
+use Rattle.rules.specs.declared.Setup.{Setup}
 use Rattle.rules.specs.Demand3.{Call, arrival, ending, Return, Made, Calls, noCalls, next, lentServer, lentClient, itemsOf, historyOf, goneToServer, goneToClient, Demand3}
 use Rattle.rules.specs.declared.Answer.{Answer}
 use Rattle.records.specs.Layout.{imageSize}
 use Rattle.records.specs.declared.Session.{Session}
 use Rattle.session.specs.declared.Prepared.{Prepared}
-use Rattle.session.specs.Calls.{Outcome, prepared, freshSession}
+use Rattle.session.specs.Calls.{Outcome, prepared, preparedFrom, freshSession}
 use Rattle.answers.specs.Table.{Situation as TableCall, Result, ofArrival as arrivalResult, ofEnd as endingResult}
 use Rattle.answers.proofs.Table.{setup-zero}
 use Rattle.history.specs.Gateway.{Fresh as SessionFresh, Promise as SessionPromise, outcomeOf, gateway}
@@ -22,10 +23,10 @@ use Rattle.history.proofs.Demand3.{demand3}
 use Rattle.output.specs.Buffer.{putAt}
 use Rattle.image.specs.Image.{imageOf, sessionOf}
 use Rattle.image.specs.Lent.{arrivedOn, endedOn, imageAfter, serverAfter, clientAfter}
-use Rattle.relay.specs.Host.{preparedFrom}
+use Rattle.session.proofs.Octets.{of-size}
 use Rattle.relay.specs.Carried.{Holds}
-use Rattle.relay.proofs.Calls.{from-slices, room}
-use Rattle.relay.proofs.Carrying.{good-flags, begun, carried}
+use Rattle.relay.proofs.Calls.{room}
+use Rattle.relay.proofs.Carrying.{good-flags, done-size, begun, carried}
 use Rattle.hosts.specs.Memory.{HostFresh, outcomeAt, HostPromise, host, HostAnswering}
 
 -- ---- an answer by its number
@@ -143,29 +144,29 @@ run {image} {z} s h (next {c = c} {t = t} {l = l} p rest) =
 -- ---- demand 3
 
 module _ (su : Setup) (image : List ℕ) (f : HostFresh su image) where
-  done : preparedFrom (su .client) (su .mapped) (su .flags) .answer ≡ Answer.Done
-  done = same-answer _ _ (room (f .memory) (preparedFrom (su .client) (su .mapped) (su .flags)) (f .room) refl ∙ f .number)
+  done : preparedFrom (f .octets) .answer ≡ Answer.Done
+  done = same-answer _ _ (room (f .memory) (preparedFrom (f .octets)) (f .room) refl ∙ f .number)
 
-  made-fresh : prepared (su .client) (su .mapped) (su .flags) ≡ record { answer = Answer.Done; session = freshSession (su .client) (su .mapped) (su .flags) }
+  made-fresh : prepared su ≡ record { answer = Answer.Done; session = freshSession su }
   made-fresh =
-      let slices = from-slices (su .client) (su .mapped) (su .flags) (f .client) (f .mapped) in
-      setup-zero (su .client) (su .mapped) (su .flags) (good-flags (su .client) (su .mapped) (su .flags) (rw slices at done))
+      let from = of-size (f .octets) (done-size (f .octets) done) ∙ ap prepared (sym (f .setup)) in
+      setup-zero su (good-flags su (rw from at done))
 
-  session-fresh : SessionFresh su (freshSession (su .client) (su .mapped) (su .flags))
+  session-fresh : SessionFresh su (freshSession su)
   session-fresh =
       record {
         answer = ap (λ (p : Prepared). p .answer) made-fresh;
         session = sym (ap (λ (p : Prepared). p .session) made-fresh);
       }
 
-  first-held : Holds image (freshSession (su .client) (su .mapped) (su .flags))
+  first-held : Holds image (freshSession su)
   first-held =
-      rw (f .put) (begun (f .memory) (su .client) (su .mapped) (su .flags) (f .room) (f .client) (f .mapped) (f .octets) done)
+      rw (f .put, f .setup) (begun (f .memory) (f .octets) (f .room) (f .each) done)
 
 -- what the functions that C calls have sent is the reading of the setup and the history
 pub host-demand3 : Demand3 host
 host-demand3 su image z l fresh calls =
-    let r = run (freshSession (su .client) (su .mapped) (su .flags)) (first-held su image fresh) calls in
+    let r = run (freshSession su) (first-held su image fresh) calls in
     let k = demand3 su _ (r .last) (r .made) (session-fresh su image fresh) (r .calls) in
     record {
       toServer = sym (r .toServer) ∙ (k .toServer ∙ rw (r .history));
@@ -176,33 +177,32 @@ host-demand3 su image z l fresh calls =
 
 -- ---- the claim is not empty
 
--- a setup of addresses of their lengths answers as its flags do
-setup-answer : (su : Setup) → length (su .client) ≡ 16 → length (su .mapped) ≡ 4
-    → preparedFrom (su .client) (su .mapped) (su .flags) .answer ≡ setupAnswer (su .flags)
+-- a setup of octets enough answers as its flags do
+setup-answer : (octets : List ℕ) → length octets ≡ setupSize → preparedFrom octets .answer ≡ setupAnswer (setupIn octets .flags)
 unfolding prepared
-setup-answer su e f = ap (λ (p : Prepared). p .answer) (from-slices (su .client) (su .mapped) (su .flags) e f)
+setup-answer octets size = ap (λ (p : Prepared). p .answer) (of-size octets size)
 
-there : (su : Setup) → length (su .client) ≡ 16 → length (su .mapped) ≡ 4 → every (λ n. leb n 255) (su .mapped) ≡ true
-    → setupAnswer (su .flags) ≡ Answer.Done → (image : List ℕ) × HostFresh su image
-there su e f octets zero-told =
-    let p = preparedFrom (su .client) (su .mapped) (su .flags) in
+there : (octets : List ℕ) → length octets ≡ setupSize → every (λ n. leb n 255) octets ≡ true
+    → setupAnswer (setupIn octets .flags) ≡ Answer.Done → (image : List ℕ) × HostFresh (setupIn octets) image
+there octets size each zero-told =
+    let p = preparedFrom octets in
     let blank : List ℕ = replicate imageSize 0 in
-    let size : length blank ≡ imageSize = length-replicate {A = ℕ} imageSize 0 in
+    let long-blank : length blank ≡ imageSize = length-replicate {A = ℕ} imageSize 0 in
     let long : imageSize ≤ length blank = omega arith in (
       putAt blank 0 (imageOf (p .session)),
       record {
         memory = blank;
         room = long;
-        client = e;
-        mapped = f;
         octets = octets;
-        number = sym (room blank p long (sym (ap answerNumber (setup-answer su e f ∙ zero-told))));
+        setup = refl;
+        each = each;
+        number = sym (room blank p long (sym (ap answerNumber (setup-answer octets size ∙ zero-told))));
         put = refl;
       },
     )
 
 only : (su : Setup) (image : List ℕ) → HostFresh su image → setupAnswer (su .flags) ≡ Answer.Done
-only su image f = sym (setup-answer su (f .client) (f .mapped)) ∙ done su image f
+only su image f = rw (f .setup) (sym (setup-answer (f .octets) (done-size (f .octets) (done su image f))) ∙ done su image f)
 
 call-returns : (image : List ℕ) (c : Call) → (t : Return (List ℕ)) × HostPromise image c t
 call-returns image c =

@@ -11,7 +11,8 @@ use Rattle.rules.specs.Octets.{choose, every}
 use Rattle.rules.specs.Lines.{judged, mostHeld}
 use Rattle.rules.specs.Answers.{mostOwed}
 use Rattle.rules.specs.Demand3.{arrival, Return}
-use Rattle.records.specs.Layout.{imageSize, mappedAt, ipv4Width, commandAt, replyAt, kindsAt}
+use Rattle.rules.specs.Setup.{ipv4Width}
+use Rattle.records.specs.Layout.{imageSize, mappedAt, commandAt, replyAt, kindsAt}
 use Rattle.octets.proofs.Ranges.{and-both}
 use Rattle.session.specs.Bounds.{Shaped, Progress}
 use Rattle.session.specs.Calls.{deadSession}
@@ -23,7 +24,7 @@ use Rattle.image.proofs.Back.{dead-sized}
 use Rattle.hosts.specs.Memory.{outcomeAt, HostPromise}
 use Rattle.hosts.proofs.Hosts.{same-answer}
 
-dead-octets : every isOctet (deadSession .mapped) ≡ true
+dead-octets : every isOctet (deadSession .fixed .mapped) ≡ true
 unfolding deadSession every
 dead-octets = refl
 

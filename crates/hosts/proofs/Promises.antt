@@ -1,30 +1,29 @@
 -- From the contracts of the functions that C calls to what demand 3 assumes of a gateway: a fresh memory, the promise of a call, and the offset.
 use mathlib.Core.Path.{_≡_, refl, sym, ap, _∙_}
-use mathlib.Core.Bool.{Bool, true, false, _&&_}
+use mathlib.Core.Bool.{Bool, true, false}
 use mathlib.Core.List.{List, [], _∷_}
 use Prim.Native.Nat.{ℕ, zero, suc, _≤_, _<_}
 use native.Mathlib.Omega.{arith}
-use lib.Dec.{leb, eqb}
+use lib.Dec.{leb}
 use lib.ListN.{length, getD}
-use borrow.Author.Tests.{le-leb, leb-true, eqb-true}
+use borrow.Author.Tests.{le-leb, leb-true}
 use Rattle.rules.specs.Octets.{choose, every}
 use Rattle.rules.specs.Answers.{answerNumber, sideOf}
-use Rattle.rules.specs.Setup.{Setup}
+use Rattle.rules.specs.Setup.{setupIn}
 use Rattle.rules.specs.Demand3.{Call, lentServer, lentClient}
 use Rattle.rules.specs.declared.Answer.{Answer}
 use Rattle.records.specs.Layout.{imageSize}
-use Rattle.octets.proofs.Ranges.{and-both}
 use Rattle.output.specs.Buffer.{putAt}
 use Rattle.records.specs.declared.Session.{Session}
 use Rattle.session.specs.declared.Prepared.{Prepared}
-use Rattle.session.specs.Calls.{offset}
+use Rattle.session.specs.Calls.{preparedFrom, offset}
 use Rattle.history.specs.Gateway.{directionNumber, returnedOffset}
 use Rattle.image.specs.Image.{imageOf}
 use Rattle.image.specs.Lent.{imageAfter, serverAfter, clientAfter}
-use Rattle.relay.specs.Host.{preparedFrom, setupNumber, countsAfter, offsetAfter}
+use Rattle.relay.specs.Host.{setupNumber, countsAfter, offsetAfter}
 use Rattle.hosts.specs.Memory.{HostFresh, outcomeAt, HostPromise, toldBy}
 
--- ---- a setup that is told 0 had room for the record, and addresses of their lengths
+-- ---- a setup that is told 0 had room for the record
 
 five : {A : Type 0} → _≡_ {A = ℕ} 5 0 → A
 five e = absurd (omega arith)
@@ -35,31 +34,14 @@ unfolding setupNumber choose answerNumber
 had-room memory p true e h = (leb-true imageSize (length memory) e, rw e at h)
 had-room memory p false e h = five (rw e at h)
 
-had-lengths : (client mapped : List ℕ) (flags : ℕ) (b : Bool) → (eqb (length client) 16 && eqb (length mapped) 4) ≡ b
-    → answerNumber (preparedFrom client mapped flags .answer) ≡ 0 → (length client ≡ 16) × (length mapped ≡ 4)
-unfolding preparedFrom choose answerNumber
-had-lengths client mapped flags true e h =
-    let both = and-both (eqb (length client) 16) (eqb (length mapped) 4) e in
-    (eqb-true (length client) 16 (both .0), eqb-true (length mapped) 4 (both .1))
-had-lengths client mapped flags false e h = five (rw e at h)
-
-pub fresh-promised : (memory client mapped : List ℕ) (flags : ℕ) {n : ℕ} {image : List ℕ} → n ≡ setupNumber memory (preparedFrom client mapped flags)
-    → image ≡ putAt memory 0 (imageOf (preparedFrom client mapped flags .session)) → every (λ n. leb n 255) mapped ≡ true → n ≡ answerNumber Answer.Done
-    → HostFresh (record { client = client; mapped = mapped; flags = flags }) image
+pub fresh-promised : (memory octets : List ℕ) {n : ℕ} {image : List ℕ} → n ≡ setupNumber memory (preparedFrom octets)
+    → image ≡ putAt memory 0 (imageOf (preparedFrom octets .session)) → every (λ n. leb n 255) octets ≡ true → n ≡ answerNumber Answer.Done
+    → HostFresh (setupIn octets) image
 unfolding answerNumber
-fresh-promised memory client mapped flags number put octets done =
+fresh-promised memory octets number put each done =
     let told = sym number ∙ done in
-    let had = had-room memory (preparedFrom client mapped flags) (leb imageSize (length memory)) refl told in
-    let sizes = had-lengths client mapped flags (eqb (length client) 16 && eqb (length mapped) 4) refl (had .1) in
-    record {
-      memory = memory;
-      room = had .0;
-      client = sizes .0;
-      mapped = sizes .1;
-      octets = octets;
-      number = told;
-      put = put;
-    }
+    let had = had-room memory (preparedFrom octets) (leb imageSize (length memory)) refl told in
+    record { memory = memory; room = had .0; octets = octets; setup = refl; each = each; number = told; put = put }
 
 -- ---- a call
 

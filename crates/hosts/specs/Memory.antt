@@ -7,26 +7,27 @@ use lib.Dec.{leb}
 use lib.ListN.{length, getD}
 use Rattle.rules.specs.Octets.{every}
 use Rattle.rules.specs.Answers.{answerNumber}
-use Rattle.rules.specs.Setup.{Setup, setupAnswer}
+use Rattle.rules.specs.Setup.{setupAnswer, setupIn, setupSize}
+use Rattle.rules.specs.declared.Setup.{Setup}
 use Rattle.rules.specs.Demand3.{Call, arrival, ending, Return, Gateway, lentServer, lentClient}
 use Rattle.rules.specs.declared.Answer.{Answer}
 use Rattle.records.specs.Layout.{imageSize}
 use Rattle.output.specs.Buffer.{putAt}
-use Rattle.session.specs.Calls.{Outcome, offset as sessionOffset}
+use Rattle.session.specs.Calls.{Outcome, preparedFrom, offset as sessionOffset}
 use Rattle.history.specs.Gateway.{directionNumber, returnedOffset}
 use Rattle.image.specs.Image.{imageOf, sessionOf}
 use Rattle.image.specs.Lent.{arrivedOn, endedOn, imageAfter, serverAfter, clientAfter}
-use Rattle.relay.specs.Host.{preparedFrom, setupNumber, countsAfter}
+use Rattle.relay.specs.Host.{setupNumber, countsAfter}
 
 -- "the record of a setup that answered 0": what `fashlemor_setup` left in memory that had room for a record
 pub record HostFresh (su : Setup) (image : List ℕ) : Type 0 where
   pub memory : List ℕ
   pub room : imageSize ≤ length memory
-  pub client : length (su .client) ≡ 16
-  pub mapped : length (su .mapped) ≡ 4
-  pub octets : every (λ n. leb n 255) (su .mapped) ≡ true
-  pub number : setupNumber memory (preparedFrom (su .client) (su .mapped) (su .flags)) ≡ answerNumber Answer.Done
-  pub put : image ≡ putAt memory 0 (imageOf (preparedFrom (su .client) (su .mapped) (su .flags) .session))
+  pub octets : List ℕ
+  pub setup : su ≡ setupIn octets
+  pub each : every (λ n. leb n 255) octets ≡ true
+  pub number : setupNumber memory (preparedFrom octets) ≡ answerNumber Answer.Done
+  pub put : image ≡ putAt memory 0 (imageOf (preparedFrom octets .session))
 
 -- what `fashlemor_arrive` and `fashlemor_end` do
 unfoldable pub outcomeAt : List ℕ → Call → Outcome
@@ -74,10 +75,10 @@ host =
       offset = λ image side. returnedOffset (sessionOffset (sessionOf image) (directionNumber side));
     }
 
--- what keeps demand 3 of a host from being empty: a setup that answers 0, with addresses of their lengths, has a memory,
--- only such a setup's is fresh, and every call returns
+-- what keeps demand 3 of a host from being empty: octets of a setup that answers 0 have a memory, only such a setup's is fresh, and
+-- every call returns
 pub record HostAnswering : Type 0 where
-  pub fresh : (su : Setup) → length (su .client) ≡ 16 → length (su .mapped) ≡ 4 → every (λ n. leb n 255) (su .mapped) ≡ true
-      → setupAnswer (su .flags) ≡ Answer.Done → (image : List ℕ) × HostFresh su image
+  pub fresh : (octets : List ℕ) → length octets ≡ setupSize → every (λ n. leb n 255) octets ≡ true
+      → setupAnswer (setupIn octets .flags) ≡ Answer.Done → (image : List ℕ) × HostFresh (setupIn octets) image
   pub onlyFresh : (su : Setup) (image : List ℕ) → HostFresh su image → setupAnswer (su .flags) ≡ Answer.Done
   pub returns : (image : List ℕ) (c : Call) → (t : Return (List ℕ)) × HostPromise image c t

@@ -4,13 +4,13 @@ ghost use mathlib.Core.Path.{_≡_};
 ghost use Prim.Native.Nat.{_≤_, _<_};
 ghost use lib.ListN.{length, getD};
 ghost use Rattle.rules.specs.Answers.{answerNumber, sideOf};
-ghost use Rattle.rules.specs.Setup.{Setup};
+ghost use Rattle.rules.specs.Setup.{setupIn};
 ghost use Rattle.rules.specs.Demand3.{arrival, ending};
 ghost use Rattle.session.specs.Bounds.{Progress};
-ghost use Rattle.session.specs.Calls.{offset as offsetIn};
+ghost use Rattle.session.specs.Calls.{preparedFrom, offset as offsetIn};
 ghost use Rattle.output.specs.Buffer.{putAt};
 ghost use Rattle.image.specs.Image.{imageOf, sessionOf};
-ghost use Rattle.relay.specs.Host.{preparedFrom, setupNumber, offsetNumber, offsetAfter};
+ghost use Rattle.relay.specs.Host.{setupNumber, offsetNumber, offsetAfter};
 ghost use Rattle.hosts.specs.Memory.{host, toldBy, Does};
 use relay::fashlemor_arrive;
 use relay::fashlemor_end;
@@ -19,14 +19,12 @@ use relay::fashlemor_setup;
 use rules::Answer;
 
 // A setup that is told 0 leaves a fresh record in the host's memory.
-pub fn promised_setup(image: &mut [u8], client: &[u8], mapped: &[u8], flags: u8) -> u8
-    ensures { λ r. ⌜ r ≡ setupNumber (now (image .entry)) (preparedFrom (now (client .entry)) (now (mapped .entry)) flags) ⌝ }
-    ensures { λ r. ⌜ now (image .exit) ≡ putAt (now (image .entry)) 0 (imageOf (preparedFrom (now (client .entry)) (now (mapped .entry)) flags .session)) ⌝ }
-    ensures { λ r.
-        let su : Setup = record { client = now (client .entry); mapped = now (mapped .entry); flags = flags } in
-        ⌜ (r ≡ answerNumber Answer.Done → host .Fresh su (now (image .exit))) ⌝ }
+pub fn promised_setup(image: &mut [u8], setup: &[u8]) -> u8
+    ensures { λ r. ⌜ r ≡ setupNumber (now (image .entry)) (preparedFrom (now (setup .entry))) ⌝ }
+    ensures { λ r. ⌜ now (image .exit) ≡ putAt (now (image .entry)) 0 (imageOf (preparedFrom (now (setup .entry)) .session)) ⌝ }
+    ensures { λ r. ⌜ (r ≡ answerNumber Answer.Done → host .Fresh (setupIn (now (setup .entry))) (now (image .exit))) ⌝ }
 {
-    fashlemor_setup(image, client, mapped, flags)
+    fashlemor_setup(image, setup)
 }
 
 // An arrival does all that the call does, whatever is lent, and so keeps the promise to a host that lends three counts.

@@ -11,7 +11,8 @@ use borrow.Author.Tests.{leb-true}
 use Rattle.rules.specs.Octets.{choose, every}
 use Rattle.rules.specs.Answers.{wrapped, mostOwed}
 use Rattle.rules.specs.Lines.{mostHeld}
-use Rattle.records.specs.Layout.{numberWidth, ipv6Width, ipv4Width, liveAt, supportedAt, epsvAt, clientPlaceAt, owedAt, clientHeldAt, serverHeldAt, upTakenAt, upWrittenAt, downTakenAt, downWrittenAt, clientAt, mappedAt, kindsAt, commandAt, imageSize, lentSize, linesSize, bitsSize, placesSize, marksSize, numbersSize}
+use Rattle.rules.specs.Setup.{ipv6Width, ipv4Width}
+use Rattle.records.specs.Layout.{numberWidth, liveAt, supportedAt, epsvAt, clientPlaceAt, owedAt, clientHeldAt, serverHeldAt, upTakenAt, upWrittenAt, downTakenAt, downWrittenAt, clientAt, mappedAt, kindsAt, commandAt, imageSize, lentSize, linesSize, bitsSize, placesSize, marksSize, numbersSize}
 use Rattle.octets.proofs.Ranges.{and-both}
 use Rattle.output.specs.Buffer.{putAt}
 use Rattle.image.specs.Image.{

@@ -14,7 +14,7 @@ use Rattle.rules.specs.Octets.{choose}
 use Rattle.rules.specs.Answers.{Side, client, server, sideOf, answerNumber, soundRecord, refusal, stop, mostOwed}
 use Rattle.rules.specs.declared.Answer.{Answer}
 use Rattle.rules.specs.Lines.{mostHeld}
-use Rattle.records.specs.Layout.{ipv6Width, ipv4Width, liveAt, supportedAt, epsvAt, upTakenAt, downTakenAt, clientAt, mappedAt, kindsAt, commandAt, replyAt, imageSize, lentMapped, lentKinds, lentCommand, lentReply, lentSize}
+use Rattle.records.specs.Layout.{liveAt, supportedAt, epsvAt, upTakenAt, downTakenAt, clientAt, mappedAt, kindsAt, commandAt, replyAt, imageSize, lentMapped, lentKinds, lentCommand, lentReply, lentSize}
 use Rattle.output.specs.Buffer.{putAt}
 use Rattle.records.specs.declared.Control.{Control}
 use Rattle.records.specs.declared.Counts.{Counts}
@@ -22,7 +22,8 @@ use Rattle.records.specs.declared.Session.{Session}
 use Rattle.records.specs.declared.Refusal.{Refusal}
 use Rattle.records.specs.Sound.{sound, refusalOf, refusalBy, Counted}
 use Rattle.records.proofs.Refusals.{refusal-cases, by-answer, countable}
-use Rattle.steps.specs.declared.Fixed.{Fixed}
+use Rattle.rules.specs.declared.Fixed.{Fixed}
+use Rattle.rules.specs.Setup.{ipv6Width, ipv4Width}
 use Rattle.arrivals.specs.declared.Taken.{Taken}
 use Rattle.steps.specs.Steps.{State, octetStep}
 use Rattle.steps.specs.Takes.{Took, takes, unlessStopped, stopOf, tookIn, commandIn, replyIn, stateFrom, addressesLent, fixedLent, kindsLent, linesLent, stateLent, coreLent, Given}
@@ -30,7 +31,7 @@ use Rattle.steps.proofs.Lent.{from-front, fixed-same}
 use Rattle.arrivals.proofs.Going.{took-all}
 use Rattle.records.proofs.Limits.{counts-holdable}
 use Rattle.session.specs.declared.Called.{Called}
-use Rattle.session.specs.Calls.{Outcome, counted, takenFor, fixedOf, stateOf, sessionAfter, deadSession, refused, unlessRefused, arrived, endCalled}
+use Rattle.session.specs.Calls.{Outcome, counted, takenFor, stateOf, sessionAfter, deadSession, refused, unlessRefused, arrived, endCalled}
 use Rattle.session.proofs.Outcomes.{Promised, arrives}
 use Rattle.image.specs.declared.arrival.Told.{Told}
 use Rattle.image.specs.Image.{markOf, marksIn, marksFrom, numbersFrom, marksOf, numbersOf, arraysOf, imageOf, isSet, part, countsAt, controlIn, fieldsIn, isImage, sessionOf}
@@ -118,7 +119,7 @@ module _ (image octets out other : List ℕ) (d : ℕ) (side : Side) (same : sid
   s = fieldsIn image
 
   abbrev whole : Took
-  whole = takes (fixedOf s) side (stateOf s) octets (length out) (length other)
+  whole = takes (s .fixed) side (stateOf s) octets (length out) (length other)
 
   pub lent-all : (supported : Bool) (c : Control) → supported ≡ isSet image supportedAt → c ≡ controlIn image
       → tookIn supported side c (lent image room) octets (length out) (length other) ≡ whole
@@ -126,9 +127,9 @@ module _ (image octets out other : List ℕ) (d : ℕ) (side : Side) (same : sid
   lent-all supported c es ec =
       let k = countable s d free in
       (λ i. tookIn (es i) side (ec i) (lent image room) octets (length out) (length other))
-      ∙ (took-all (s .supported) side (s .control) (lent image room) octets (length out) (length other)
+      ∙ (took-all (s .fixed .supported) side (s .control) (lent image room) octets (length out) (length other)
       (counts-holdable (s .control) (k .owed) (k .command) (k .reply)) (lent-size image room)
-      ∙ (λ i. takes (fixed-lies image room (s .supported) i) side (state-lies image room (s .control) i) octets (length out) (length other)))
+      ∙ (λ i. takes (fixed-lies image room (s .fixed .supported) i) side (state-lies image room (s .control) i) octets (length out) (length other)))
 
   -- t is what `take` returned, and arrays what was lent then
   module _ (took : Took) (all : took ≡ whole) (t : Taken) (arrays out′ other′ : List ℕ)
@@ -150,7 +151,7 @@ module _ (image octets out other : List ℕ) (d : ℕ) (side : Side) (same : sid
     below =
         ap (λ (k : Called). leb 3 (answerNumber (k .answer))) (sym (promised .0))
         ∙ (ap (λ (a : Answer). leb 3 (answerNumber a)) (given .0 .0 ∙ ap (λ (x : Took). x .answer) all)
-        ∙ takes-below (fixedOf s) side (stateOf s) octets (length out) (length other))
+        ∙ takes-below (s .fixed) side (stateOf s) octets (length out) (length other))
 
     -- what is written back makes the image of the next record
     module _ (ok : isImage image ≡ true) (up down up′ down′ : Counts) (eu : up ≡ countsAt image upTakenAt) (ed : down ≡ countsAt image downTakenAt)

@@ -11,7 +11,8 @@ use borrow.Author.Tests.{le-leb}
 use Rattle.rules.specs.Octets.{choose, every}
 use Rattle.rules.specs.Lines.{judged, mostHeld}
 use Rattle.rules.specs.Answers.{mostOwed}
-use Rattle.records.specs.Layout.{liveAt, supportedAt, clientPlaceAt, upTakenAt, downTakenAt, clientAt, mappedAt, kindsAt, commandAt, replyAt, imageSize, lentMapped, lentKinds, lentCommand, lentReply, bitsSize, placesSize, ipv6Width, ipv4Width}
+use Rattle.rules.specs.Setup.{ipv6Width, ipv4Width}
+use Rattle.records.specs.Layout.{liveAt, supportedAt, clientPlaceAt, upTakenAt, downTakenAt, clientAt, mappedAt, kindsAt, commandAt, replyAt, imageSize, lentMapped, lentKinds, lentCommand, lentReply, bitsSize, placesSize}
 use Rattle.places.specs.declared.Place.{Place}
 use Rattle.records.specs.declared.Session.{Session}
 use Rattle.session.specs.Calls.{deadSession}
@@ -96,7 +97,7 @@ module _ (s : Session) (rest : List ℕ) (h : Sized s) where
 
   marks : atMost 1 (part image liveAt bitsSize) ≡ true
   unfolding imageOf marksOf atMost every
-  marks = rw (bit-most (s .live), bit-most (s .supported), bit-most (s .control .switches .epsv), bit-most (s .control .switches .eprt), bit-most (s .control .unfinished))
+  marks = rw (bit-most (s .live), bit-most (s .fixed .supported), bit-most (s .control .switches .epsv), bit-most (s .control .switches .eprt), bit-most (s .control .unfinished))
 
   places : atMost 3 (part image clientPlaceAt placesSize) ≡ true
   unfolding imageOf marksOf atMost every
@@ -112,30 +113,30 @@ module _ (s : Session) (rest : List ℕ) (h : Sized s) where
       → take n (drop i (arraysOf s ++ rest)) ≡ x
   array a x b i n split e f = rw split (middle a x b i n e f)
 
-  client-back : part image clientAt ipv6Width ≡ s .client
+  client-back : part image clientAt ipv6Width ≡ s .fixed .client
   unfolding imageOf marksOf numbersOf fourOctets arraysOf
-  client-back = array [] (s .client) (s .mapped ++ (s .kinds ++ (s .command ++ (s .reply ++ rest)))) 0 ipv6Width (simp append-assoc) refl (h .client)
+  client-back = array [] (s .fixed .client) (s .fixed .mapped ++ (s .kinds ++ (s .command ++ (s .reply ++ rest)))) 0 ipv6Width (simp append-assoc) refl (h .client)
 
-  mapped-back : part image mappedAt ipv4Width ≡ s .mapped
+  mapped-back : part image mappedAt ipv4Width ≡ s .fixed .mapped
   unfolding imageOf marksOf numbersOf fourOctets arraysOf
-  mapped-back = array (s .client) (s .mapped) (s .kinds ++ (s .command ++ (s .reply ++ rest))) lentMapped ipv4Width (simp append-assoc) (h .client) (h .mapped)
+  mapped-back = array (s .fixed .client) (s .fixed .mapped) (s .kinds ++ (s .command ++ (s .reply ++ rest))) lentMapped ipv4Width (simp append-assoc) (h .client) (h .mapped)
 
   kinds-back : part image kindsAt mostOwed ≡ s .kinds
   unfolding imageOf marksOf numbersOf fourOctets arraysOf
   kinds-back =
-      array (s .client ++ s .mapped) (s .kinds) (s .command ++ (s .reply ++ rest)) lentKinds mostOwed (simp append-assoc) (rw length-append (omega (arith, h .client, h .mapped)))
+      array (s .fixed .client ++ s .fixed .mapped) (s .kinds) (s .command ++ (s .reply ++ rest)) lentKinds mostOwed (simp append-assoc) (rw length-append (omega (arith, h .client, h .mapped)))
       (h .kinds)
 
   command-back : part image commandAt mostHeld ≡ s .command
   unfolding imageOf marksOf numbersOf fourOctets arraysOf
   command-back =
-      array (s .client ++ (s .mapped ++ s .kinds)) (s .command) (s .reply ++ rest) lentCommand mostHeld (simp append-assoc) (simp length-append (omega (arith, h .client, h .mapped, h .kinds)))
+      array (s .fixed .client ++ (s .fixed .mapped ++ s .kinds)) (s .command) (s .reply ++ rest) lentCommand mostHeld (simp append-assoc) (simp length-append (omega (arith, h .client, h .mapped, h .kinds)))
       (h .command)
 
   reply-back : part image replyAt mostHeld ≡ s .reply
   unfolding imageOf marksOf numbersOf fourOctets arraysOf
   reply-back =
-      array (s .client ++ (s .mapped ++ (s .kinds ++ s .command))) (s .reply) rest lentReply mostHeld (simp append-assoc)
+      array (s .fixed .client ++ (s .fixed .mapped ++ (s .kinds ++ s .command))) (s .reply) rest lentReply mostHeld (simp append-assoc)
       (simp length-append (omega (arith, h .client, h .mapped, h .kinds, h .command)))
       (h .reply)
 
@@ -161,9 +162,9 @@ module _ (s : Session) (rest : List ℕ) (h : Sized s) where
     unfolding imageOf marksOf
     live-back = bit-set (s .live)
 
-    supported-back : isSet image supportedAt ≡ s .supported
+    supported-back : isSet image supportedAt ≡ s .fixed .supported
     unfolding imageOf marksOf
-    supported-back = bit-set (s .supported)
+    supported-back = bit-set (s .fixed .supported)
 
     pub fields-back : Wrapped (s .up) → Wrapped (s .down) → sessionOf image ≡ s
     unfolding sessionOf choose fieldsIn

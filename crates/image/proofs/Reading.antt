@@ -12,7 +12,8 @@ use Rattle.rules.specs.Octets.{choose}
 use Rattle.rules.specs.Answers.{soundRecord, mostOwed}
 use Rattle.rules.specs.declared.Answer.{Answer}
 use Rattle.rules.specs.Lines.{mostHeld}
-use Rattle.records.specs.Layout.{liveAt, supportedAt, clientPlaceAt, upTakenAt, downTakenAt, clientAt, mappedAt, kindsAt, commandAt, replyAt, imageSize, bitsSize, placesSize, ipv6Width, ipv4Width}
+use Rattle.rules.specs.Setup.{ipv6Width, ipv4Width}
+use Rattle.records.specs.Layout.{liveAt, supportedAt, clientPlaceAt, upTakenAt, downTakenAt, clientAt, mappedAt, kindsAt, commandAt, replyAt, imageSize, bitsSize, placesSize}
 use Rattle.octets.proofs.Ranges.{and-both}
 use Rattle.places.specs.declared.Place.{Place}
 use Rattle.output.specs.Buffer.{putAt}
@@ -47,9 +48,7 @@ pub fields-read : (image : List ℕ) {client mapped kinds command reply : List �
     → _≡_ {A = Session}
     (record {
       live = isSet image liveAt;
-      client = client;
-      mapped = mapped;
-      supported = isSet image supportedAt;
+      fixed = record { client = client; mapped = mapped; supported = isSet image supportedAt };
       control = control;
       command = command;
       reply = reply;

@@ -8,7 +8,9 @@ use lib.ListN.{length, getD, take, drop, replicate}
 use Rattle.rules.specs.Octets.{choose, every}
 use Rattle.rules.specs.Lines.{mostHeld}
 use Rattle.rules.specs.Answers.{mostOwed}
-use Rattle.records.specs.Layout.{numberWidth, liveAt, supportedAt, epsvAt, eprtAt, unfinishedAt, clientPlaceAt, serverPlaceAt, owedAt, clientHeldAt, serverHeldAt, upTakenAt, downTakenAt, clientAt, mappedAt, kindsAt, commandAt, replyAt, imageSize, bitsSize, placesSize, ipv6Width, ipv4Width}
+use Rattle.rules.specs.Setup.{ipv6Width, ipv4Width}
+use Rattle.rules.specs.declared.Fixed.{Fixed}
+use Rattle.records.specs.Layout.{numberWidth, liveAt, supportedAt, epsvAt, eprtAt, unfinishedAt, clientPlaceAt, serverPlaceAt, owedAt, clientHeldAt, serverHeldAt, upTakenAt, downTakenAt, clientAt, mappedAt, kindsAt, commandAt, replyAt, imageSize, bitsSize, placesSize}
 use Rattle.places.specs.declared.Place.{Place}
 use Rattle.places.specs.Places.{at}
 use Rattle.records.specs.declared.Control.{Control}
@@ -53,7 +55,7 @@ marksFrom live supported c = markOf live ∷ markOf supported ∷ marksIn c
 
 -- all marks of a record
 unfoldable pub marksOf : Session → List ℕ
-marksOf s = marksFrom (s .live) (s .supported) (s .control)
+marksOf s = marksFrom (s .live) (s .fixed .supported) (s .control)
 
 -- the replies owed, the octets held of both lines, and what is counted
 abbrev pub numbersBy : ℕ → ℕ → ℕ → Counts → Counts → List ℕ
@@ -76,7 +78,7 @@ numbersOf s = numbersFrom (s .control) (s .up) (s .down)
 
 -- the addresses, the kinds and both lines
 unfoldable pub arraysOf : Session → List ℕ
-arraysOf s = s .client ++ (s .mapped ++ (s .kinds ++ (s .command ++ s .reply)))
+arraysOf s = s .fixed .client ++ (s .fixed .mapped ++ (s .kinds ++ (s .command ++ s .reply)))
 
 -- the whole image: marks, numbers, arrays
 unfoldable pub imageOf : Session → List ℕ
@@ -119,14 +121,21 @@ controlIn image =
       unfinished = isSet image unfinishedAt;
     }
 
+-- what the setup fixed
+abbrev pub fixedAt : List ℕ → Fixed
+fixedAt image =
+    record {
+      client = part image clientAt ipv6Width;
+      mapped = part image mappedAt ipv4Width;
+      supported = isSet image supportedAt;
+    }
+
 -- all fields
 unfoldable pub fieldsIn : List ℕ → Session
 fieldsIn image =
     record {
       live = isSet image liveAt;
-      client = part image clientAt ipv6Width;
-      mapped = part image mappedAt ipv4Width;
-      supported = isSet image supportedAt;
+      fixed = fixedAt image;
       control = controlIn image;
       command = part image commandAt mostHeld;
       reply = part image replyAt mostHeld;
@@ -151,8 +160,8 @@ sessionOf image = choose (isImage image) (fieldsIn image) deadSession
 
 -- what the types of a record's arrays say of their lengths
 pub record Sized (s : Session) : Type 0 where
-  pub client : length (s .client) ≡ ipv6Width
-  pub mapped : length (s .mapped) ≡ ipv4Width
+  pub client : length (s .fixed .client) ≡ ipv6Width
+  pub mapped : length (s .fixed .mapped) ≡ ipv4Width
   pub kinds : length (s .kinds) ≡ mostOwed
   pub command : length (s .command) ≡ mostHeld
   pub reply : length (s .reply) ≡ mostHeld

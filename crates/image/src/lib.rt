@@ -20,6 +20,7 @@ use records::Refusal;
 use records::Session;
 use records::layout;
 use records::refusal_on;
+use rules::Fixed;
 use rules::Switches;
 use session::held_line;
 use session::refused_setup;
@@ -39,15 +40,10 @@ pub fn put_image(image: &mut [u8], session: Session)
         return;
     }
     let control = session.control;
+    let fixed = session.fixed;
     let up = session.up;
     let down = session.down;
-    let marked = put_marks(
-        image,
-        layout::LIVE,
-        session.live,
-        session.supported,
-        control,
-    );
+    let marked = put_marks(image, layout::LIVE, session.live, fixed.supported, control);
     let said = control.client;
     let answered = control.server;
     let owed = capped(control.owed);
@@ -160,8 +156,9 @@ fn put_number(out: &mut [u8], at: usize, n: u32) -> usize
 fn put_arrays(out: &mut [u8], at: usize, session: Session) -> usize
     ensures { λ r. ⌜ PutInRoom (now (out .entry)) at (arraysOf session) r (now (out .exit)) ⌝ }
 {
-    let client = session.client;
-    let mapped = session.mapped;
+    let fixed = session.fixed;
+    let client = fixed.client;
+    let mapped = fixed.mapped;
     let kinds = session.kinds;
     let command = session.command;
     let reply = session.reply;
@@ -245,11 +242,14 @@ fn fields(image: &[u8]) -> Session
     let control = control_in(image);
     let up = counts_at(image, layout::UP_TAKEN);
     let down = counts_at(image, layout::DOWN_TAKEN);
-    Session {
-        live,
+    let fixed = Fixed {
         client,
         mapped,
         supported,
+    };
+    Session {
+        live,
+        fixed,
         control,
         command,
         reply,

@@ -7,6 +7,7 @@ use lib.ListN.{drop}
 use Rattle.rules.specs.Answers.{sideOf}
 use Rattle.rules.specs.Demand3.{Call, lentServer, lentClient}
 use Rattle.rules.specs.declared.Answer.{Answer}
+use Rattle.rules.specs.declared.Setup.{Setup}
 use Rattle.records.specs.declared.Session.{Session}
 use Rattle.session.specs.declared.Prepared.{Prepared}
 use Rattle.session.specs.declared.Called.{Called}
@@ -14,9 +15,8 @@ use Rattle.session.specs.declared.DirectionOffset.{DirectionOffset}
 use Rattle.session.specs.Calls.{prepared, offset}
 use Rattle.history.specs.Gateway.{Fresh, outcomeOf, returned, Promise, gateway}
 
-pub fresh-promised : (client mapped : List ℕ) (flags : ℕ) (r : Prepared) → r ≡ prepared client mapped flags → r .answer ≡ Answer.Done
-    → Fresh (record { client = client; mapped = mapped; flags = flags }) (r .session)
-fresh-promised client mapped flags r e done =
+pub fresh-promised : (su : Setup) (r : Prepared) → r ≡ prepared su → r .answer ≡ Answer.Done → Fresh su (r .session)
+fresh-promised su r e done =
     record { answer = ap (λ (p : Prepared). p .answer) (sym e) ∙ done; session = ap (λ (p : Prepared). p .session) e }
 
 pub call-promised : (r : Session) (c : Call) (t : Called) (s k : List ℕ) → t ≡ outcomeOf r c .called

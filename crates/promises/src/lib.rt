@@ -9,16 +9,17 @@ ghost use Rattle.session.specs.Calls.{prepared, offset as offsetIn};
 ghost use Rattle.history.specs.Gateway.{gateway, returned};
 use records::Session;
 use rules::Answer;
+use rules::Setup;
 use session::Called;
 use session::DirectionOffset;
 use session::Prepared;
 
 // A setup that answers 0 returns a fresh session.
-pub fn promised_setup(client: [u8; 16], mapped: [u8; 4], flags: u8) -> Prepared
-    ensures { λ r. ⌜ r ≡ prepared client mapped flags ⌝ }
-    ensures { λ r. ⌜ (r .answer ≡ Answer.Done → gateway .Fresh (record { client = client; mapped = mapped; flags = flags }) (r .session)) ⌝ }
+pub fn promised_setup(setup: Setup) -> Prepared
+    ensures { λ r. ⌜ r ≡ prepared setup ⌝ }
+    ensures { λ r. ⌜ (r .answer ≡ Answer.Done → gateway .Fresh setup (r .session)) ⌝ }
 {
-    session::setup(client, mapped, flags)
+    session::setup(setup)
 }
 
 // An arrival keeps the promise of a call, and goes on where there is room.

@@ -2,6 +2,7 @@
 use Prim.Native.Nat.{ℕ, _+_, _-_}
 use Rattle.rules.specs.Lines.{mostHeld}
 use Rattle.rules.specs.Answers.{mostOwed}
+use Rattle.rules.specs.Setup.{ipv6Width, ipv4Width}
 
 -- ---- how wide a field is
 
@@ -12,13 +13,6 @@ markWidth = 1
 -- a number of 32 bits
 abbrev pub numberWidth : ℕ
 numberWidth = 4
-
--- "the client's IPv6 address (16 octets), its mapped IPv4 address (4 octets)"
-abbrev pub ipv6Width : ℕ
-ipv6Width = 16
-
-abbrev pub ipv4Width : ℕ
-ipv4Width = 4
 
 -- ---- where it begins: two marks that stay from the setup on
 

@@ -1,15 +1,13 @@
 // The record as octets: its fields in their order, each where the one before it ends (`Layout`, docs/RECORD.md).
 use rules::HELD;
+use rules::IPV4;
+use rules::IPV6;
 use rules::OWED;
 
-// How wide a mark, a number and the two addresses are.
+// How wide a mark and a number are.
 const MARK: usize = 1;
 
 pub const NUMBER: usize = 4;
-
-const IPV6: usize = 16;
-
-const IPV4: usize = 4;
 
 // Two marks that stay from the setup on.
 pub const LIVE: usize = 0;

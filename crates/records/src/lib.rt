@@ -13,6 +13,7 @@ use places::Place;
 use places::has_ended;
 use places::is_passing;
 use rules::Answer;
+use rules::Fixed;
 use rules::HELD;
 use rules::Kinds;
 use rules::Line;
@@ -39,9 +40,7 @@ pub struct Counts {
 // The record.
 pub struct Session {
     pub live: bool,
-    pub client: [u8; 16],
-    pub mapped: [u8; 4],
-    pub supported: bool,
+    pub fixed: Fixed,
     pub control: Control,
     pub command: Line,
     pub reply: Line,

@@ -3,8 +3,8 @@ use mathlib.Core.Path.{_≡_, ap, sym, _∙_}
 use mathlib.Core.List.{List}
 use Prim.Native.Nat.{ℕ, _≤_, _<_}
 use native.Mathlib.Omega.{arith}
-use lib.ListN.{length, replicate}
-use borrow.Author.Tests.{eq-eqb, ne-eqb, le-leb, lt-leb}
+use lib.ListN.{length}
+use borrow.Author.Tests.{le-leb, lt-leb}
 use Rattle.rules.specs.Octets.{choose}
 use Rattle.rules.specs.Answers.{answerNumber}
 use Rattle.rules.specs.declared.Answer.{Answer}
@@ -14,33 +14,13 @@ use Rattle.session.specs.declared.Called.{Called}
 use Rattle.session.specs.declared.Prepared.{Prepared}
 use Rattle.records.specs.declared.Session.{Session}
 use Rattle.session.specs.declared.DirectionOffset.{DirectionOffset}
-use Rattle.session.specs.Calls.{Outcome, prepared, offset}
+use Rattle.session.specs.Calls.{Outcome, offset}
 use Rattle.image.specs.Image.{imageOf, sessionOf}
-use Rattle.output.proofs.Front.{filled}
 use Rattle.image.specs.declared.arrival.Told.{Told}
 use Rattle.image.specs.Lent.{imageAfter, Tells}
-use Rattle.relay.specs.Host.{refusedSetup, preparedFrom, setupNumber, countsFrom, countsAfter, offsetNumber, offsetAfter}
+use Rattle.relay.specs.Host.{setupNumber, countsFrom, countsAfter, offsetNumber, offsetAfter}
 
 -- ---- setup
-
-module _ (client mapped : List ℕ) (flags : ℕ) where
-  pub wrong-client : (length client ≡ 16 → ⊥) → refusedSetup ≡ preparedFrom client mapped flags
-  unfolding preparedFrom choose
-  wrong-client ne = rw (ne-eqb (length client) 16 ne)
-
-  pub wrong-mapped : length client ≡ 16 → (length mapped ≡ 4 → ⊥) → refusedSetup ≡ preparedFrom client mapped flags
-  unfolding preparedFrom choose
-  wrong-mapped e ne = rw (eq-eqb (length client) 16 e, ne-eqb (length mapped) 4 ne)
-
-  pub from-slices : length client ≡ 16 → length mapped ≡ 4 → preparedFrom client mapped flags ≡ prepared client mapped flags
-  unfolding preparedFrom choose
-  from-slices e f = rw (eq-eqb (length client) 16 e, eq-eqb (length mapped) 4 f)
-
-  -- a setup on copies of the two addresses
-  pub set-up : {a m : List ℕ} {p : Prepared} → length client ≡ 16 → length mapped ≡ 4 → a ≡ putAt (replicate 16 0) 0 client
-      → m ≡ putAt (replicate 4 0) 0 mapped → p ≡ prepared a m flags → p ≡ preparedFrom client mapped flags
-  set-up {a} {m} e f same same′ made =
-      made ∙ (ap (λ (x : List ℕ). prepared x m flags) (same ∙ filled 16 client e) ∙ (ap (λ (x : List ℕ). prepared client x flags) (same′ ∙ filled 4 mapped f) ∙ sym (from-slices e f)))
 
 module _ (image : List ℕ) (p : Prepared) {n : ℕ} where
   pub no-room : length image < imageSize → n ≡ answerNumber Answer.BadSetup → n ≡ setupNumber image p

@@ -3,15 +3,20 @@ use mathlib.Core.Path.{_≡_, refl, ap, sym, _∙_}
 use mathlib.Core.Bool.{Bool, true, false}
 use mathlib.Core.List.{List}
 use mathlib.Core.Option.{Option, none, some}
-use Prim.Native.Nat.{ℕ, _^_, _≤_, _<_}
+use Prim.Native.Nat.{ℕ, _+_, _^_, _≤_, _<_}
 use native.Mathlib.Omega.{arith}
-use lib.Dec.{leb}
-use lib.ListN.{length, drop}
-use borrow.Author.Tests.{leb-true, leb-false}
+use lib.Dec.{leb, eqb}
+use lib.ListN.{length, drop, length-drop}
+use lib.Seq.{length-take-le, getD-take, getD-drop}
+use borrow.Author.Tests.{leb-true, leb-false, eqb-true}
 use Rattle.rules.specs.Octets.{choose}
 use Rattle.rules.specs.Lines.{judged}
 use Rattle.rules.specs.Answers.{Side, wrapped, answerNumber}
 use Rattle.rules.specs.declared.Answer.{Answer}
+use Rattle.rules.specs.Setup.{ipv6Width, ipv4Width, setupSize, setupIn}
+use Rattle.rules.specs.declared.Setup.{Setup}
+use Rattle.rules.specs.declared.Fixed.{Fixed}
+use Rattle.session.proofs.Octets.{of-size}
 use Rattle.records.specs.Layout.{imageSize}
 use Rattle.output.specs.Buffer.{putAt}
 use Rattle.output.proofs.Placing.{length-put}
@@ -19,10 +24,11 @@ use Rattle.records.specs.declared.Session.{Session}
 use Rattle.session.specs.Bounds.{Shaped}
 use Rattle.steps.specs.Steps.{Step}
 use Rattle.steps.specs.Takes.{Took}
-use Rattle.session.specs.Calls.{Outcome, refused, unlessRefused, outcome, sessionAfter, arrived, endOutcome, endCalled, prepared, deadSession, freshSession}
+use Rattle.session.specs.Calls.{Outcome, refused, unlessRefused, outcome, sessionAfter, arrived, endOutcome, endCalled, prepared, preparedFrom, deadSession, freshSession}
 use Rattle.output.proofs.Front.{front-put}
 use Rattle.answers.specs.Table.{Situation, Result, ofArrival, ofEnd, Sound, BadFlags}
 use Rattle.answers.proofs.Refusals.{sound-words}
+use Rattle.answers.proofs.Lengths.{octet-at, octets-all}
 use Rattle.answers.proofs.Kept.{calls-keep, fresh-kept}
 use Rattle.answers.proofs.Table.{refused-untouched, end-two, end-two-untouched, five, setup-zero}
 use Rattle.image.specs.Image.{imageOf, fieldsIn, isImage, sessionOf, Sized, Wrapped}
@@ -31,14 +37,14 @@ use Rattle.image.proofs.Back.{read-back}
 use Rattle.image.proofs.Again.{record-lies}
 use Rattle.image.specs.Lent.{endedOn, imageAfter}
 use Rattle.relay.specs.Carried.{Holds, Begun, Carried, EndKeeps}
-use Rattle.relay.proofs.Calls.{from-slices, kept, written-back}
+use Rattle.relay.proofs.Calls.{kept, written-back}
 
-sizes : (s : Session) → Shaped s → length (s .client) ≡ 16 → Sized s
+sizes : (s : Session) → Shaped s → length (s .fixed .client) ≡ ipv6Width → Sized s
 unfolding judged
 sizes s h e = record { client = e; mapped = h .mapped; kinds = h .kinds; command = h .command; reply = h .reply }
 
 -- a record that is put into memory with room for it is held there
-put-holds : (image : List ℕ) (s : Session) → imageSize ≤ length image → Shaped s → length (s .client) ≡ 16 → Wrapped (s .up) → Wrapped (s .down)
+put-holds : (image : List ℕ) (s : Session) → imageSize ≤ length image → Shaped s → length (s .fixed .client) ≡ ipv6Width → Wrapped (s .up) → Wrapped (s .down)
     → Sound s → Holds (putAt image 0 (imageOf s)) s
 put-holds image s room shape e up down w =
     let size = sizes s shape e in
@@ -56,8 +62,8 @@ put-holds image s room shape e up down w =
 
 -- ---- what a call does not touch, and its counters
 
-pub record Fixed (s : Session) (o : Outcome) : Type 0 where
-  pub client : o .called .session .client ≡ s .client
+record Untouched (s : Session) (o : Outcome) : Type 0 where
+  pub fixed : o .called .session .fixed ≡ s .fixed
   pub up : Wrapped (o .called .session .up)
   pub down : Wrapped (o .called .session .down)
 
@@ -65,52 +71,68 @@ low : (n : ℕ) → wrapped n < 2 ^ 32
 unfolding wrapped
 low n = omega arith
 
-outcome-fixed : (s : Session) (d : Side) (t : Took) → Fixed s (outcome s d t)
+outcome-fixed : (s : Session) (d : Side) (t : Took) → Untouched s (outcome s d t)
 unfolding outcome sessionAfter
 outcome-fixed s d t =
-    record { client = refl; up = record { taken = low _; written = low _ }; down = record { taken = low _; written = low _ } }
+    record { fixed = refl; up = record { taken = low _; written = low _ }; down = record { taken = low _; written = low _ } }
 
 module _ (s : Session) (up : Wrapped (s .up)) (down : Wrapped (s .down)) where
-  same-fixed : (a : Answer) → Fixed s (refused a s)
+  same-fixed : (a : Answer) → Untouched s (refused a s)
   unfolding refused
-  same-fixed a = record { client = refl; up = up; down = down }
+  same-fixed a = record { fixed = refl; up = up; down = down }
 
-  unless-fixed : (r : Option Answer) (o : Outcome) → Fixed s o → Fixed s (unlessRefused r s o)
+  unless-fixed : (r : Option Answer) (o : Outcome) → Untouched s o → Untouched s (unlessRefused r s o)
   unfolding unlessRefused
   unless-fixed none o f = f
   unless-fixed (some a) o f = same-fixed a
 
-  end-fixed : (d : Side) (t : Step) (b : Bool) → Fixed s (endOutcome s d t b)
+  end-fixed : (d : Side) (t : Step) (b : Bool) → Untouched s (endOutcome s d t b)
   unfolding endOutcome
   end-fixed d t true = outcome-fixed s d _
   end-fixed d t false = same-fixed Answer.NoRoom
 
-call-fixed : (c : Situation) (o : Outcome) → Wrapped (c .session .up) → Wrapped (c .session .down) → Result c o → Fixed (c .session) o
+call-fixed : (c : Situation) (o : Outcome) → Wrapped (c .session .up) → Wrapped (c .session .down) → Result c o → Untouched (c .session) o
 unfolding arrived endCalled
 call-fixed c o up down (ofArrival octets) = unless-fixed (c .session) up down _ _ (outcome-fixed (c .session) _ _)
 call-fixed c o up down ofEnd = unless-fixed (c .session) up down _ _ (end-fixed (c .session) up down _ _ _)
 
 -- ---- setup
 
-fresh-counts : (client mapped : List ℕ) (flags : ℕ) → Wrapped (freshSession client mapped flags .up) × Wrapped (freshSession client mapped flags .down)
+fresh-counts : (su : Setup) → Wrapped (freshSession su .up) × Wrapped (freshSession su .down)
 unfolding freshSession
-fresh-counts client mapped flags = (record { taken = omega arith; written = omega arith }, record { taken = omega arith; written = omega arith })
+fresh-counts su = (record { taken = omega arith; written = omega arith }, record { taken = omega arith; written = omega arith })
 
-fresh-client : (client mapped : List ℕ) (flags : ℕ) → freshSession client mapped flags .client ≡ client
+fresh-client : (su : Setup) → freshSession su .fixed .client ≡ su .client
 unfolding freshSession
-fresh-client client mapped flags = refl
+fresh-client su = refl
 
-pub good-flags : (client mapped : List ℕ) (flags : ℕ) → prepared client mapped flags .answer ≡ Answer.Done → BadFlags flags → ⊥
+pub good-flags : (su : Setup) → prepared su .answer ≡ Answer.Done → BadFlags (su .flags) → ⊥
 unfolding answerNumber
-good-flags client mapped flags e b = omega (arith, five client mapped flags .1 b, ap answerNumber e)
+good-flags su e b = omega (arith, five su .1 b, ap answerNumber e)
+
+-- what is told of a setup that answered 0
+had-size : (octets : List ℕ) → preparedFrom octets .answer ≡ Answer.Done → (b : Bool) → eqb (length octets) setupSize ≡ b → length octets ≡ setupSize
+unfolding preparedFrom choose answerNumber
+had-size octets done true e = eqb-true (length octets) setupSize e
+had-size octets done false e = absurd (omega (arith, ap answerNumber (rw e at done)))
+
+pub done-size : (octets : List ℕ) → preparedFrom octets .answer ≡ Answer.Done → length octets ≡ setupSize
+done-size octets done = had-size octets done (eqb (length octets) setupSize) refl
 
 pub begun : Begun
-begun image client mapped flags room e f octets done =
-    let p = from-slices client mapped flags e f in
-    let z = setup-zero client mapped flags (good-flags client mapped flags (rw p at done)) in
-    let k = fresh-kept client mapped flags f octets in
-    let n = fresh-counts client mapped flags in
-    let held = put-holds image (freshSession client mapped flags) room (k .0) (ap length (fresh-client client mapped flags) ∙ e) (n .0) (n .1) (k .1) in
+unfolding setupIn
+begun image octets room each done =
+    let size = done-size octets done in
+    let su = setupIn octets in
+    let p = of-size octets size in
+    let z = setup-zero su (good-flags su (rw p at done)) in
+    let client : length (su .client) ≡ ipv6Width = length-take-le ipv6Width octets (omega arith) in
+    let mapped : length (su .mapped) ≡ ipv4Width = length-take-le ipv4Width (drop ipv6Width octets) (omega (arith, length-drop ipv6Width octets)) in
+    let k = fresh-kept su mapped
+    (octets-all (su .mapped)
+    (λ j less. rw (getD-take ipv4Width (drop ipv6Width octets) j 0 (omega (arith, mapped)), getD-drop ipv6Width octets j 0) (octet-at octets (ipv6Width + j) each))) in
+    let n = fresh-counts su in
+    let held = put-holds image (freshSession su) room (k .0) (ap length (fresh-client su) ∙ client) (n .0) (n .1) (k .1) in
     rw (p ∙ z) held
 
 -- ---- the calls
@@ -126,7 +148,7 @@ carried image c o h r = by-number (leb 3 (answerNumber (o .called .answer))) ref
         let low′ = leb-false 3 (answerNumber (o .called .answer)) e in
         let k = calls-keep c (h .shaped) (h .sound) o r in
         let f = call-fixed c o (h .up) (h .down) r in
-        rw (sym (written-back image (o .called) refl low′)) (put-holds image (o .called .session) (h .room) (k .0) (ap length (f .client) ∙ h .client) (f .up) (f .down) (k .1))
+        rw (sym (written-back image (o .called) refl low′)) (put-holds image (o .called .session) (h .room) (k .0) (ap (λ (x : Fixed). length (x .client)) (f .fixed) ∙ h .client) (f .up) (f .down) (k .1))
 
 -- ---- an end whose octets do not fit
 

@@ -8,22 +8,22 @@ use lib.ListN.{length, getD}
 use Rattle.rules.specs.Octets.{every}
 use Rattle.rules.specs.Answers.{answerNumber}
 use Rattle.rules.specs.declared.Answer.{Answer}
+use Rattle.rules.specs.Setup.{ipv6Width, setupIn}
 use Rattle.records.specs.Layout.{imageSize}
 use Rattle.output.specs.Buffer.{putAt}
 use Rattle.records.specs.declared.Session.{Session}
 use Rattle.session.specs.Bounds.{Shaped}
-use Rattle.session.specs.Calls.{Outcome, freshSession}
+use Rattle.session.specs.Calls.{Outcome, freshSession, preparedFrom}
 use Rattle.answers.specs.Table.{Situation, Result, Sound}
 use Rattle.image.specs.Image.{imageOf, sessionOf, Wrapped}
 use Rattle.image.specs.Lent.{endedOn, imageAfter}
-use Rattle.relay.specs.Host.{preparedFrom}
 
 -- a record is read from the memory, and number 4 does not refuse it; the sizes are those of its types
 pub record Holds (image : List ℕ) (s : Session) : Type 0 where
   pub room : imageSize ≤ length image
   pub read : sessionOf image ≡ s
   pub shaped : Shaped s
-  pub client : length (s .client) ≡ 16
+  pub client : length (s .fixed .client) ≡ ipv6Width
   pub up : Wrapped (s .up)
   pub down : Wrapped (s .down)
   pub sound : Sound s
@@ -31,9 +31,8 @@ pub record Holds (image : List ℕ) (s : Session) : Type 0 where
 -- after a setup that answered 0 it holds the fresh session
 abbrev pub Begun : Type 0
 Begun =
-    (image client mapped : List ℕ) (flags : ℕ) → imageSize ≤ length image → length client ≡ 16 → length mapped ≡ 4
-    → every (λ n. leb n 255) mapped ≡ true → preparedFrom client mapped flags .answer ≡ Answer.Done
-    → Holds (putAt image 0 (imageOf (preparedFrom client mapped flags .session))) (freshSession client mapped flags)
+    (image octets : List ℕ) → imageSize ≤ length image → every (λ n. leb n 255) octets ≡ true → preparedFrom octets .answer ≡ Answer.Done
+    → Holds (putAt image 0 (imageOf (preparedFrom octets .session))) (freshSession (setupIn octets))
 
 -- after an arrival or an end, whatever it answered, it holds the record that the session returned
 abbrev pub Carried : Type 0

@@ -1,8 +1,7 @@
 -- The calls of a host in C: the number that it is told, the record's image, the buffers, the counts and the offset.
-use mathlib.Core.Bool.{_&&_}
 use mathlib.Core.List.{List, _∷_}
 use Prim.Native.Nat.{ℕ}
-use lib.Dec.{leb, eqb}
+use lib.Dec.{leb}
 use lib.ListN.{length, drop, set}
 use Rattle.rules.specs.Octets.{choose}
 use Rattle.rules.specs.Answers.{answerNumber}
@@ -12,18 +11,8 @@ use Rattle.steps.specs.declared.Written.{Written}
 use Rattle.session.specs.declared.Called.{Called}
 use Rattle.session.specs.declared.Prepared.{Prepared}
 use Rattle.session.specs.declared.DirectionOffset.{DirectionOffset}
-use Rattle.session.specs.Calls.{prepared, deadSession}
 
 -- ---- setup
-
--- "With 5 the record is not live and otherwise all zero"
-abbrev pub refusedSetup : Prepared
-refusedSetup = record { answer = Answer.BadSetup; session = deadSession }
-
--- a setup on slices: addresses of other lengths than 16 and 4 are refused
-unfoldable pub preparedFrom : List ℕ → List ℕ → ℕ → Prepared
-preparedFrom client mapped flags =
-    choose (eqb (length client) 16 && eqb (length mapped) 4) (prepared client mapped flags) refusedSetup
 
 -- memory in which the record has no room is refused too
 unfoldable pub setupNumber : List ℕ → Prepared → ℕ

@@ -3,34 +3,30 @@
 ghost use mathlib.Core.Path.{_≡_};
 ghost use Rattle.rules.specs.Answers.{answerNumber};
 ghost use Rattle.output.specs.Buffer.{putAt};
-ghost use Rattle.session.specs.Calls.{offset as offsetIn};
+ghost use Rattle.session.specs.Calls.{preparedFrom, offset as offsetIn};
 ghost use Rattle.image.specs.Image.{imageOf, sessionOf};
 ghost use Rattle.image.specs.Lent.{arrivedOn, endedOn, imageAfter, serverAfter, clientAfter};
-ghost use Rattle.relay.specs.Host.{preparedFrom, setupNumber, countsFrom, countsAfter, offsetNumber, offsetAfter};
+ghost use Rattle.relay.specs.Host.{setupNumber, countsFrom, countsAfter, offsetNumber, offsetAfter};
 use image::arrive_at;
 use image::end_at;
 use image::put_image;
 use image::read_image;
-use output::four;
-use output::sixteen;
 use records::layout;
 use rules::Answer;
 use rules::number_of;
 use session::DirectionOffset;
-use session::Prepared;
 use session::offset;
-use session::refused_setup;
-use session::setup;
+use session::setup_from;
 use steps::Written;
 
 // Writes the record of a fresh session, or the record of a setup that is refused.
 #[no_mangle]
-pub extern "C" fn fashlemor_setup(image: &mut [u8], client: &[u8], mapped: &[u8], flags: u8) -> u8
-    ensures { λ r. ⌜ r ≡ setupNumber (now (image .entry)) (preparedFrom (now (client .entry)) (now (mapped .entry)) flags) ⌝ }
-    ensures { λ r. ⌜ now (image .exit) ≡ putAt (now (image .entry)) 0 (imageOf (preparedFrom (now (client .entry)) (now (mapped .entry)) flags .session)) ⌝ }
+pub extern "C" fn fashlemor_setup(image: &mut [u8], setup: &[u8]) -> u8
+    ensures { λ r. ⌜ r ≡ setupNumber (now (image .entry)) (preparedFrom (now (setup .entry))) ⌝ }
+    ensures { λ r. ⌜ now (image .exit) ≡ putAt (now (image .entry)) 0 (imageOf (preparedFrom (now (setup .entry)) .session)) ⌝ }
 {
     let room = image.len();
-    let p = prepare(client, mapped, flags);
+    let p = setup_from(setup);
     let answer = p.answer;
     let session = p.session;
     put_image(image, session);
@@ -38,19 +34,6 @@ pub extern "C" fn fashlemor_setup(image: &mut [u8], client: &[u8], mapped: &[u8]
         return number_of(Answer::BadSetup);
     }
     number_of(answer)
-}
-
-// A setup on slices, whose lengths may be wrong.
-fn prepare(client: &[u8], mapped: &[u8], flags: u8) -> Prepared
-    ensures { λ r. ⌜ r ≡ preparedFrom (now (client .entry)) (now (mapped .entry)) flags ⌝ }
-{
-    if client.len() != 16 {
-        return refused_setup();
-    }
-    if mapped.len() != 4 {
-        return refused_setup();
-    }
-    setup(sixteen(client), four(mapped), flags)
 }
 
 // Octets of a direction arrive; what they give goes into the two buffers.

@@ -96,7 +96,3 @@ module _ (file : List ℕ) (r : Replay) (e : isDue file r ≡ true) {l : ℕ} (l
 
   pub body-most : length (take (r .body + l - r .body) (drop (r .body) file)) ≤ 1024
   body-most = omega (arith, body-length, due file r e .right .most, same-length)
-
-  pub body-setup : 4 ≤ getD file (2 + 4 * r .number) 0 → length (take (r .body + l - r .body) (drop (r .body) file)) ≡ 21
-  body-setup h =
-      body-length ∙ (sym same-length ∙ due file r e .right .setup (rw (kind-at file (2 + 4 * r .number)) h))

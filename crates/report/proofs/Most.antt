@@ -16,7 +16,7 @@ use Rattle.rules.specs.declared.Answer.the-variants as a
 use Rattle.output.proofs.Decimal.{decimal-most}
 use Rattle.records.specs.declared.Session.{Session}
 use Rattle.steps.specs.Steps.{Step}
-use Rattle.session.specs.Calls.{Outcome, refused, unlessRefused, outcome, fixedOf, stateOf, arrived, endStep, endOutcome, endCalled, prepared}
+use Rattle.session.specs.Calls.{Outcome, refused, unlessRefused, outcome, stateOf, arrived, endStep, endOutcome, endCalled, prepared}
 use Rattle.records.specs.Sound.{refusalOf}
 use Rattle.steps.specs.Takes.{takes}
 use Rattle.octets.proofs.Ranges.{and-both}
@@ -83,8 +83,8 @@ roomy-unless (some x) s o m n w = record { server = omega arith; client = omega 
 roomy-arrived : (s : Session) (d : ℕ) (octets : List ℕ) (m n : ℕ) → Roomy (arrived s d octets m n) m n
 unfolding arrived outcome
 roomy-arrived s d octets m n =
-    let t = takes (fixedOf s) (sideOf d) (stateOf s) octets m n in
-    let w = takes-fit (fixedOf s) (sideOf d) (stateOf s) octets m n in
+    let t = takes (s .fixed) (sideOf d) (stateOf s) octets m n in
+    let w = takes-fit (s .fixed) (sideOf d) (stateOf s) octets m n in
     roomy-unless (refusalOf s d) s (outcome s (sideOf d) t) m n (record { server = w .server; client = w .client })
 
 roomy-end : (s : Session) (d : Side) (t : Step) (m n : ℕ) (b : Bool) → fits (t .toServer) (t .toClient) m n ≡ b → Roomy (endOutcome s d t b) m n

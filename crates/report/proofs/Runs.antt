@@ -12,12 +12,12 @@ use Rattle.rules.specs.Octets.{choose}
 use Rattle.rules.specs.Answers.{Side, sideOf, answerNumber, fits}
 use Rattle.rules.specs.declared.Answer.{Answer}
 use Rattle.session.specs.declared.Called.{Called}
-use Rattle.steps.specs.declared.Fixed.{Fixed}
+use Rattle.rules.specs.declared.Fixed.{Fixed}
 use Rattle.session.specs.declared.Prepared.{Prepared}
 use Rattle.records.specs.declared.Session.{Session}
 use Rattle.steps.specs.Steps.{State, Step, octetStep}
 use Rattle.steps.specs.Takes.{Took, unlessStopped, stopOf, takes}
-use Rattle.session.specs.Calls.{Outcome, prepared, refused, unlessRefused, outcome, fixedOf, stateOf, arrived, endStep, endOutcome, endCalled}
+use Rattle.session.specs.Calls.{Outcome, preparedFrom, refused, unlessRefused, outcome, stateOf, arrived, endStep, endOutcome, endCalled}
 use Rattle.records.specs.Sound.{refusalOf}
 use Rattle.fields.specs.Report.{Done, outRoom, doneBy, setUp, runEntry}
 use Rattle.report.specs.declared.EntryRan.{EntryRan}
@@ -77,8 +77,8 @@ told-unless (some a) s o n t = record { taken = omega arith; server = refl; clie
 pub told-arrived : (s : Session) (d : ℕ) (octets : List ℕ) (m n : ℕ) → Told (arrived s d octets m n) (length octets)
 unfolding arrived outcome
 told-arrived s d octets m n =
-    told-unless (refusalOf s d) s (outcome s (sideOf d) (takes (fixedOf s) (sideOf d) (stateOf s) octets m n)) (length octets)
-    (record { taken = takes-most (fixedOf s) (sideOf d) (stateOf s) octets m n; server = refl; client = refl })
+    told-unless (refusalOf s d) s (outcome s (sideOf d) (takes (s .fixed) (sideOf d) (stateOf s) octets m n)) (length octets)
+    (record { taken = takes-most (s .fixed) (sideOf d) (stateOf s) octets m n; server = refl; client = refl })
 
 told-end : (s : Session) (d : Side) (t : Step) (b : Bool) → Told (endOutcome s d t b) 0
 unfolding endOutcome outcome refused
@@ -138,8 +138,7 @@ written-within d {r} out other k =
     )
 
 -- a setup by what its body gives
-pub setup-ran : (body : List ℕ) {address mapped : List ℕ} {p : Prepared} {n : ℕ} → address ≡ take 16 body → mapped ≡ take 4 (drop 16 body)
-    → p ≡ prepared address mapped (getD body 20 0) → n ≡ answerNumber (p .answer)
+pub setup-ran : (body : List ℕ) {p : Prepared} {n : ℕ} → p ≡ preparedFrom body → n ≡ answerNumber (p .answer)
     → _≡_ {A = EntryRan} (record { taken = 0; answer = n; written = record { server = 0; client = 0 }; session = p .session }) (ranBy (setUp body))
 unfolding ranBy setUp
-setup-ran body a m e n = rw (n, e, a, m)
+setup-ran body e n = rw (n, e)

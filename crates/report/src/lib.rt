@@ -5,16 +5,14 @@ use fields::put_header;
 use files::Verdict;
 use files::judge;
 use files::pair_at;
-use output::four;
 use output::put;
-use output::sixteen;
 use records::Session;
 use rules::number_of;
 use session::Called;
 use session::arrive;
 use session::end;
 use session::refused_setup;
-use session::setup;
+use session::setup_from;
 use steps::Written;
 ghost use mathlib.Core.Path.{_≡_};
 ghost use Prim.Native.Nat.{_≤_};
@@ -222,7 +220,6 @@ fn run_entry(
     to_client: &mut [u8],
 ) -> EntryRan
     requires { ⌜ length (now body) ≤ 1024 ⌝ }
-    requires { ⌜ (4 ≤ kind → length (now body) ≡ 21) ⌝ }
     requires { ⌜ length (now «to_server») ≡ outRoom ⌝ }
     requires { ⌜ length (now «to_client») ≡ outRoom ⌝ }
     ensures { λ r. ⌜ r ≡ ranBy (runEntry session kind (now (body .entry))) ⌝ }
@@ -253,12 +250,11 @@ fn ran_of(called: Called) -> EntryRan
     }
 }
 
-// The client's address (16 octets), its mapped address (4 octets) and a flag octet.
+// The record of a setup, from its octets.
 fn set_up(body: &[u8]) -> EntryRan
-    requires { ⌜ length (now body) ≡ 21 ⌝ }
     ensures { λ r. ⌜ r ≡ ranBy (setUp (now (body .entry))) ⌝ }
 {
-    let p = setup(sixteen(&body[..16]), four(&body[16..20]), body[20]);
+    let p = setup_from(body);
     let answer = p.answer;
     let session = p.session;
     let none = Written {

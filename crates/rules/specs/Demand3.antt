@@ -5,7 +5,8 @@ use mathlib.Core.List.{List, [], _∷_, _++_, map}
 use Prim.Native.Nat.{ℕ}
 use lib.ListN.{length, take}
 use Rattle.rules.specs.Answers.{Side, client, server, sideOf, offsetOf}
-use Rattle.rules.specs.Setup.{Setup, setupAnswer}
+use Rattle.rules.specs.Setup.{setupAnswer}
+use Rattle.rules.specs.declared.Setup.{Setup}
 use Rattle.rules.specs.History.{Item, octet, end, textOf, hasEnded, takenFrom}
 use Rattle.rules.specs.ToServer.{toServer as readServer}
 use Rattle.rules.specs.ToClient.{toClient as readClient}

@@ -6,7 +6,8 @@ use lib.Dec.{eqb}
 use lib.ListN.{length}
 use Rattle.rules.specs.Octets.{lf, choose}
 use Rattle.rules.specs.Answers.{client, server}
-use Rattle.rules.specs.Setup.{Setup, setupSwitches}
+use Rattle.rules.specs.Setup.{setupSwitches}
+use Rattle.rules.specs.declared.Setup.{Setup}
 use Rattle.rules.specs.Lines.{judged, isWhole, startsAuth, passed, unchanged, content}
 use Rattle.rules.specs.Replies.{isAuth, replyLine, leavesUnfinished, owedAfter, headAnswers, withoutAnswers, authAtHead}
 use Rattle.rules.specs.Edition.{ClientLine, LineRules, document01}

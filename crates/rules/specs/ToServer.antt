@@ -4,7 +4,8 @@ use mathlib.Core.List.{List, [], _∷_, _++_}
 use Prim.Native.Nat.{ℕ}
 use lib.Dec.{eqb}
 use Rattle.rules.specs.Octets.{lf, choose}
-use Rattle.rules.specs.Setup.{Setup, setupSwitches}
+use Rattle.rules.specs.Setup.{setupSwitches}
+use Rattle.rules.specs.declared.Setup.{Setup}
 use Rattle.rules.specs.Lines.{isWhole, startsAuth, passed, unchanged}
 use Rattle.rules.specs.Replies.{isAuth}
 use Rattle.rules.specs.Edition.{ClientLine, LineRules, document01}

@@ -31,6 +31,28 @@ pub struct Switches {
     pub eprt: bool,
 }
 
+// How many octets the two addresses have.
+pub const IPV6: usize = 16;
+
+pub const IPV4: usize = 4;
+
+// And a setup: both addresses and the flags.
+pub const SETUP: usize = IPV6 + IPV4 + 1;
+
+// What a setup gives: the client's address, its mapped address, and the flags.
+pub struct Setup {
+    pub client: [u8; IPV6],
+    pub mapped: [u8; IPV4],
+    pub flags: u8,
+}
+
+// What a setup fixes for the whole session: the client's address, its mapped address, and whether EPRT is supported.
+pub struct Fixed {
+    pub client: [u8; IPV6],
+    pub mapped: [u8; IPV4],
+    pub supported: bool,
+}
+
 // The gateway's own answers: 522, 504, and 216 with the state of the switches.
 pub enum OwnAnswer {
     ProtocolNotSupported,

@@ -2,4 +2,5 @@
 pub mod Wrapping
 pub mod Flags
 pub mod Lines
+pub mod Octets
 pub mod Outcomes

@@ -8,7 +8,8 @@ use lib.ListN.{length, take, drop, replicate, length-append, length-drop, length
 use lib.Seq.{length-take-le, take-all, take-at, drop-at, drop-drop}
 use Rattle.rules.specs.Lines.{mostHeld}
 use Rattle.rules.specs.Answers.{mostOwed}
-use Rattle.records.specs.Layout.{ipv6Width, ipv4Width, lentMapped, lentKinds, lentCommand, lentReply, lentSize}
+use Rattle.rules.specs.Setup.{ipv6Width, ipv4Width}
+use Rattle.records.specs.Layout.{lentMapped, lentKinds, lentCommand, lentReply, lentSize}
 use Rattle.output.specs.Buffer.{putAt}
 use Rattle.output.proofs.Placing.{put-after}
 use Rattle.output.proofs.Front.{filled}

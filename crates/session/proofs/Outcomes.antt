@@ -19,7 +19,7 @@ use Rattle.records.specs.declared.Refusal.{Refusal}
 use Rattle.output.specs.Buffer.{putAt, positionAfter}
 use Rattle.steps.specs.Steps.{State, heldOf}
 use Rattle.steps.specs.Takes.{Took, takes, Core, coreFrom, coreTook}
-use Rattle.session.specs.Calls.{Outcome, counted, takenFor, fixedOf, stateOf, sessionAfter, refused, unlessRefused, outcome, arrived, goesTo, writtenFrom, endStep, endOutcome, heldEnd, bufferAfter, endCalled}
+use Rattle.session.specs.Calls.{Outcome, counted, takenFor, stateOf, sessionAfter, refused, unlessRefused, outcome, arrived, goesTo, writtenFrom, endStep, endOutcome, heldEnd, bufferAfter, endCalled}
 use Rattle.records.specs.Sound.{refusalOf, refusalBy, sideIf}
 use Rattle.records.proofs.Sides.{not-zero}
 use Rattle.records.proofs.Refusals.{by-answer}
@@ -45,9 +45,7 @@ pub advanced : (s : Session) (d : Side) (n toServer toClient : ℕ) (t : State) 
     → _≡_ {A = Session}
     (record {
       live = s .live;
-      client = s .client;
-      mapped = s .mapped;
-      supported = s .supported;
+      fixed = s .fixed;
       control = t .control;
       command = t .command;
       reply = t .reply;
@@ -80,7 +78,7 @@ side-tested (suc d) = rw (eqb·suc-zero d)
 -- side is the direction's, which does not refuse
 module _ (s : Session) (d : ℕ) (octets out other : List ℕ) (side : Side) (same : side ≡ sideOf d) (free : refusalOf s d ≡ none) where
   abbrev pub taking : Took
-  taking = takes (fixedOf s) side (stateOf s) octets (length out) (length other)
+  taking = takes (s .fixed) side (stateOf s) octets (length out) (length other)
 
   unrefused : arrived s d octets (length out) (length other) ≡ outcome s side taking
   unfolding arrived unlessRefused
@@ -94,7 +92,7 @@ module _ (s : Session) (d : ℕ) (octets out other : List ℕ) (side : Side) (sa
       let p = p₀ ∙ ap (λ (x : Took). x .answer) all in
       let q = q₀ ∙ ap (λ (x : Took). x .taken) all in
       let k = k₀ ∙ ap (λ (x : Took). coreTook x out other) all in
-      let fit = takes-fit (fixedOf s) side (stateOf s) octets (length out) (length other) in
+      let fit = takes-fit (s .fixed) side (stateOf s) octets (length out) (length other) in
       let st : t ≡ taking .state = ap (λ (x : Core). x .state) k in
       let size : w ≡ record { server = length (taking .toServer); client = length (taking .toClient) } = ap (λ (x : Core). x .written) k in (
         rw (unrefused, e, p, q, st, size),

@@ -11,16 +11,17 @@ use Rattle.rules.specs.Answers.{Side, mostOwed, mostToServer, mostToClient, isQ
 use Rattle.rules.specs.Lines.{mostHeld}
 use Rattle.rules.specs.Demand3.{isRefusal}
 use Rattle.rules.specs.declared.Answer.{Answer}
+use Rattle.rules.specs.Setup.{ipv4Width}
 use Rattle.records.specs.declared.Session.{Session}
 use Rattle.steps.specs.Steps.{Step, octetStep}
 use Rattle.records.specs.Sound.{sound}
 use Rattle.places.specs.Places.{isPassing}
-use Rattle.session.specs.Calls.{stateOf, fixedOf}
+use Rattle.session.specs.Calls.{stateOf}
 
 -- what the types of a record's arrays say of it
 pub record Shaped (s : Session) : Type 0 where
-  pub mapped : length (s .mapped) ≡ 4
-  pub octets : every (λ n. leb n 255) (s .mapped) ≡ true
+  pub mapped : length (s .fixed .mapped) ≡ ipv4Width
+  pub octets : every (λ n. leb n 255) (s .fixed .mapped) ≡ true
   pub command : length (s .command) ≡ mostHeld
   pub reply : length (s .reply) ≡ mostHeld
   pub kinds : length (s .kinds) ≡ mostOwed
@@ -35,7 +36,7 @@ abbrev pub OctetBound : Type 0
 OctetBound =
     (s : Session) (d : Side) (x : ℕ) → Shaped s → sound s ≡ true
     → isQueueFull d (isPassing (s .control .client .place)) (s .control .owed) ≡ false
-    → WritesAtMost (octetStep (fixedOf s) d (stateOf s) x)
+    → WritesAtMost (octetStep (s .fixed) d (stateOf s) x)
 
 -- "So a non-empty arrival not refused by 3, 4, 6 or stopped by 1 takes at least one octet when each buffer has 1,280 free":
 -- the octets that arrive, the room in each buffer, the answer, and how many octets are taken

@@ -3,15 +3,15 @@ use mathlib.Core.Bool.{Bool, true, false}
 use mathlib.Core.List.{List, [], _++_}
 use mathlib.Core.Option.{Option, none, some}
 use Prim.Native.Nat.{ℕ, zero, suc, _+_, _-_}
-use lib.Dec.{leb}
+use lib.Dec.{leb, eqb}
 use lib.ListN.{length, drop, replicate}
 use Rattle.rules.specs.Octets.{choose}
 use Rattle.rules.specs.Answers.{Side, client, server, sideOf, mostOwed, fits, wrapped, offsetOf}
-use Rattle.rules.specs.Setup.{eprtSupported, setupSwitches, badFlags, setupAnswer}
+use Rattle.rules.specs.Setup.{setupSize, setupIn, fixedBy, setupSwitches, badFlags, setupAnswer, ipv6Width, ipv4Width}
 use Rattle.rules.specs.Lines.{mostHeld, passed}
 use Rattle.rules.specs.declared.Answer.{Answer}
+use Rattle.rules.specs.declared.Setup.{Setup}
 use Rattle.rules.specs.declared.Switches.{Switches}
-use Rattle.records.specs.Layout.{ipv6Width, ipv4Width}
 use Rattle.places.specs.declared.Place.{Place}
 use Rattle.places.specs.declared.Direction.{Direction}
 use Rattle.records.specs.declared.Control.{Control}
@@ -19,7 +19,7 @@ use Rattle.records.specs.Controls.{withEnded}
 use Rattle.records.specs.declared.Counts.{Counts}
 use Rattle.records.specs.declared.Session.{Session}
 use Rattle.records.specs.Sound.{refusalOf, sound-opened}
-use Rattle.steps.specs.declared.Fixed.{Fixed}
+use Rattle.rules.specs.declared.Fixed.{Fixed}
 use Rattle.steps.specs.declared.Written.{Written}
 use Rattle.session.specs.declared.Prepared.{Prepared}
 use Rattle.session.specs.declared.Called.{Called}
@@ -52,13 +52,11 @@ startControl sw owed =
     record { switches = sw; client = startDirection; server = startDirection; owed = owed; unfinished = false }
 
 -- a record at the start: what is given, and arrays and counts of zeros
-abbrev pub startSession : Bool → List ℕ → List ℕ → Bool → Control → Session
-startSession live address mapped supported c =
+abbrev pub startSession : Bool → Fixed → Control → Session
+startSession live fixed c =
     record {
       live = live;
-      client = address;
-      mapped = mapped;
-      supported = supported;
+      fixed = fixed;
       control = c;
       command = noOctets;
       reply = noOctets;
@@ -68,29 +66,33 @@ startSession live address mapped supported c =
     }
 
 -- "A fresh session owes one: the greeting", which is plain, number 0
-unfoldable pub freshSession : List ℕ → List ℕ → ℕ → Session
-freshSession address mapped flags =
-    startSession true address mapped (eprtSupported flags) (startControl (setupSwitches flags) 1)
+unfoldable pub freshSession : Setup → Session
+freshSession su = startSession true (fixedBy su) (startControl (setupSwitches (su .flags)) 1)
 
 -- "With 5 the record is not live and otherwise all zero"
 unfoldable pub deadSession : Session
 deadSession =
-    startSession false (replicate ipv6Width 0) (replicate ipv4Width 0) false (startControl (record { epsv = false; eprt = false }) 0)
+    startSession false (record { client = replicate ipv6Width 0; mapped = replicate ipv4Width 0; supported = false })
+    (startControl (record { epsv = false; eprt = false }) 0)
 
 -- "Setup gives ..": the answer, and the record that it leaves
-unfoldable pub prepared : List ℕ → List ℕ → ℕ → Prepared
-prepared address mapped flags =
-    record { answer = setupAnswer flags; session = choose (badFlags flags) deadSession (freshSession address mapped flags) }
+unfoldable pub prepared : Setup → Prepared
+prepared su =
+    record { answer = setupAnswer (su .flags); session = choose (badFlags (su .flags)) deadSession (freshSession su) }
+
+-- what a setup that is refused answers, and leaves
+abbrev pub refusedSetup : Prepared
+refusedSetup = record { answer = Answer.BadSetup; session = deadSession }
+
+-- the same from octets; fewer or more than a setup has are refused
+unfoldable pub preparedFrom : List ℕ → Prepared
+preparedFrom octets = choose (eqb (length octets) setupSize) (prepared (setupIn octets)) refusedSetup
 
 -- ---- what an arrival works on
 
--- what octets change in a record, and what they don't
+-- what octets change in a record
 abbrev pub stateOf : Session → State
 stateOf s = record { control = s .control; command = s .command; reply = s .reply; kinds = s .kinds }
-
--- what they don't: the addresses, and whether EPRT is supported
-abbrev pub fixedOf : Session → Fixed
-fixedOf s = record { client = s .client; mapped = s .mapped; supported = s .supported }
 
 -- ---- the record after a call
 
@@ -110,9 +112,7 @@ unfoldable pub sessionAfter : Session → Side → ℕ → ℕ → ℕ → State
 sessionAfter s d taken toServer toClient t =
     record {
       live = s .live;
-      client = s .client;
-      mapped = s .mapped;
-      supported = s .supported;
+      fixed = s .fixed;
       control = t .control;
       command = t .command;
       reply = t .reply;
@@ -157,7 +157,7 @@ outcome s d t =
 unfoldable pub arrived : Session → ℕ → List ℕ → ℕ → ℕ → Outcome
 arrived s d octets serverRoom clientRoom =
     unlessRefused (refusalOf s d) s
-    (outcome s (sideOf d) (takes (fixedOf s) (sideOf d) (stateOf s) octets serverRoom clientRoom))
+    (outcome s (sideOf d) (takes (s .fixed) (sideOf d) (stateOf s) octets serverRoom clientRoom))
 
 -- ---- ends
 
@@ -216,5 +216,5 @@ offset s (suc (suc d)) = DirectionOffset.UnknownDirection
 
 -- this page's definitions, for a proof that computes with them
 unfoldable pub calls-opened : Unit {0}
-unfolding sound-opened takes-opened freshSession deadSession prepared sessionAfter refused unlessRefused outcome arrived endStep endOutcome heldEnd endCalled offset
+unfolding sound-opened takes-opened freshSession deadSession prepared preparedFrom sessionAfter refused unlessRefused outcome arrived endStep endOutcome heldEnd endCalled offset
 calls-opened = tt

@@ -5,8 +5,8 @@ ghost use lib.ListN.{length, drop, replicate};
 ghost use Prim.Native.Nat.{ℕ};
 ghost use Rattle.rules.specs.Answers.{wrapped, client as clientSide, server as serverSide, mostOwed};
 ghost use Rattle.rules.specs.Lines.{mostHeld};
-ghost use Rattle.records.specs.Layout.{ipv6Width, ipv4Width};
-ghost use Rattle.session.specs.Calls.{prepared, startSession, startControl, deadSession, arrived, heldEnd, bufferAfter, writtenFrom, endCalled, refused as refusedOutcome, counted as countedBy, takenFor, sessionAfter, offset as offsetIn};
+ghost use Rattle.rules.specs.Setup.{ipv6Width, ipv4Width};
+ghost use Rattle.session.specs.Calls.{prepared, startSession, startControl, refusedSetup, preparedFrom, arrived, heldEnd, bufferAfter, writtenFrom, endCalled, refused as refusedOutcome, counted as countedBy, takenFor, sessionAfter, offset as offsetIn};
 ghost use Rattle.output.specs.Buffer.{putAt};
 ghost use Rattle.records.specs.Sound.{sideIf};
 ghost use Rattle.steps.specs.Steps.{heldOf};
@@ -14,6 +14,7 @@ ghost use Rattle.steps.specs.Takes.{stateFrom};
 use arrivals::take;
 use gives::passed_length;
 use gives::put_passed;
+use output::four;
 use output::put;
 use output::sixteen;
 use places::Direction;
@@ -31,10 +32,15 @@ use records::layout::LENT_SIZE;
 use records::refusal_of;
 use records::with_ended;
 use rules::Answer;
+use rules::Fixed;
 use rules::HELD;
+use rules::IPV4;
+use rules::IPV6;
 use rules::Kinds;
 use rules::Line;
 use rules::OWED;
+use rules::SETUP;
+use rules::Setup;
 use rules::Switches;
 use steps::Written;
 
@@ -64,10 +70,11 @@ pub enum DirectionOffset {
     UnknownDirection,
 }
 
-// A session from the client's address, its mapped address and the flags.
-pub fn setup(client: [u8; 16], mapped: [u8; 4], flags: u8) -> Prepared
-    ensures { λ r. ⌜ r ≡ prepared client mapped flags ⌝ }
+// A session from what a setup gives.
+pub fn setup(setup: Setup) -> Prepared
+    ensures { λ r. ⌜ r ≡ prepared setup ⌝ }
 {
+    let flags = setup.flags;
     let epsv = flags & 1 == 1;
     let supported = (flags >> 1) & 1 == 1;
     let eprt = (flags >> 2) & 1 == 1;
@@ -77,22 +84,38 @@ pub fn setup(client: [u8; 16], mapped: [u8; 4], flags: u8) -> Prepared
     if eprt && !supported {
         return refused_setup();
     }
+    let client = setup.client;
+    let mapped = setup.mapped;
+    let fixed = Fixed {
+        client,
+        mapped,
+        supported,
+    };
     Prepared {
         answer: Answer::Done,
-        session: start(true, client, mapped, supported, Switches { epsv, eprt }, 1),
+        session: start(true, fixed, Switches { epsv, eprt }, 1),
     }
 }
 
+// The same from octets, for all who have a setup as octets: another number of them is refused.
+pub fn setup_from(octets: &[u8]) -> Prepared
+    ensures { λ r. ⌜ r ≡ preparedFrom (now (octets .entry)) ⌝ }
+{
+    if octets.len() != SETUP {
+        return refused_setup();
+    }
+    let client = sixteen(&octets[..IPV6]);
+    let mapped = four(&octets[IPV6..IPV6 + IPV4]);
+    setup(Setup {
+        client,
+        mapped,
+        flags: octets[IPV6 + IPV4],
+    })
+}
+
 // A session in which nothing is held yet and nothing counted.
-fn start(
-    live: bool,
-    client: [u8; 16],
-    mapped: [u8; 4],
-    supported: bool,
-    switches: Switches,
-    owed: usize,
-) -> Session
-    ensures { λ r. ⌜ r ≡ startSession live client mapped supported (startControl switches owed) ⌝ }
+fn start(live: bool, fixed: Fixed, switches: Switches, owed: usize) -> Session
+    ensures { λ r. ⌜ r ≡ startSession live fixed (startControl switches owed) ⌝ }
 {
     let direction = Direction {
         place: Place::Holding,
@@ -111,9 +134,7 @@ fn start(
     };
     Session {
         live,
-        client,
-        mapped,
-        supported,
+        fixed,
         control,
         command: [0u8; HELD],
         reply: [0u8; HELD],
@@ -125,15 +146,20 @@ fn start(
 
 // What a setup returns that is refused: a record that is not live, and otherwise zero.
 pub fn refused_setup() -> Prepared
-    ensures { λ r. ⌜ r ≡ record { answer = Answer.BadSetup; session = deadSession } ⌝ }
+    ensures { λ r. ⌜ r ≡ refusedSetup ⌝ }
 {
     let off = Switches {
         epsv: false,
         eprt: false,
     };
+    let none = Fixed {
+        client: [0u8; IPV6],
+        mapped: [0u8; IPV4],
+        supported: false,
+    };
     Prepared {
         answer: Answer::BadSetup,
-        session: start(false, [0u8; 16], [0u8; 4], false, off, 0),
+        session: start(false, none, off, 0),
     }
 }
 
@@ -153,15 +179,16 @@ pub fn arrive(
         return refused(answer, session);
     }
     let from_client = direction == 0;
-    let client = session.client;
-    let mapped = session.mapped;
+    let fixed = session.fixed;
+    let client = fixed.client;
+    let mapped = fixed.mapped;
     let control = session.control;
     let kinds = session.kinds;
     let said = session.command;
     let answered = session.reply;
     let mut lent = laid(client, mapped, kinds, said, answered);
     let t = take(
-        session.supported,
+        fixed.supported,
         from_client,
         control,
         octets,
@@ -194,8 +221,8 @@ pub fn arrive(
 
 // The arrays of a record behind each other, as `take` has them.
 fn laid(
-    client: [u8; 16],
-    mapped: [u8; 4],
+    client: [u8; IPV6],
+    mapped: [u8; IPV4],
     kinds: Kinds,
     command: Line,
     reply: Line,
@@ -251,8 +278,7 @@ fn after(
 ) -> Session
     ensures { λ r. ⌜ r ≡ sessionAfter session (sideIf «from_client») taken (written .server) (written .client) (stateFrom control command reply kinds) ⌝ }
 {
-    let client = session.client;
-    let mapped = session.mapped;
+    let fixed = session.fixed;
     let sent = session.up;
     let answered = session.down;
     let counts = counts_then(sent, answered, from_client, taken, written);
@@ -260,9 +286,7 @@ fn after(
     let down = counts.down;
     Session {
         live: session.live,
-        client,
-        mapped,
-        supported: session.supported,
+        fixed,
         control,
         command,
         reply,

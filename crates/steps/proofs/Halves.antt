@@ -12,7 +12,7 @@ use Rattle.rules.specs.Lines.{mostHeld}
 use Rattle.records.specs.Layout.{linesSize}
 use Rattle.gives.specs.declared.Gives.{Gives}
 use Rattle.records.specs.declared.Control.{Control}
-use Rattle.steps.specs.declared.Fixed.{Fixed}
+use Rattle.rules.specs.declared.Fixed.{Fixed}
 use Rattle.steps.specs.declared.Written.{Written}
 use Rattle.steps.specs.Steps.{State, stored}
 use Rattle.steps.specs.Takes.{commandIn, replyIn, stateIn, stateFrom, coreFrom, coreIn}

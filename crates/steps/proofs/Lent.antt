@@ -9,7 +9,8 @@ use lib.Seq.{length-take-le, take-take, take-all, take-add, take-at, drop-at, dr
 use borrow.Rule.Slice.PartMut.{putMid, midOf, postOf, same-len-mid, set-mid-at}
 use Rattle.rules.specs.Lines.{mostHeld}
 use Rattle.rules.specs.Answers.{mostOwed}
-use Rattle.records.specs.Layout.{ipv6Width, ipv4Width, lentMapped, lentKinds, lentCommand, lentReply, lentSize, linesSize}
+use Rattle.rules.specs.Setup.{ipv6Width, ipv4Width}
+use Rattle.records.specs.Layout.{lentMapped, lentKinds, lentCommand, lentReply, lentSize, linesSize}
 use Rattle.records.specs.declared.Control.{Control}
 use Rattle.steps.specs.Takes.{commandIn, replyIn, stateFrom, addressesLent, fixedLent, kindsLent, linesLent, stateLent}
 

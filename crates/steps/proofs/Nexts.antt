@@ -17,7 +17,7 @@ use Rattle.places.specs.Places.{isPassing}
 use Rattle.records.specs.declared.Control.{Control}
 use Rattle.records.specs.Sound.{holdable}
 use Rattle.records.proofs.Limits.{holdable-counts, counts-holdable}
-use Rattle.steps.specs.declared.Fixed.{Fixed}
+use Rattle.rules.specs.declared.Fixed.{Fixed}
 use Rattle.steps.specs.declared.Written.{Written}
 use Rattle.steps.specs.Steps.{octetStep}
 use Rattle.steps.specs.Takes.{Took, tookNothing, unlessStopped, stopOf, takes, Core, coreBehind, isWithin, tookNext}

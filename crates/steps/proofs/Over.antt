@@ -9,7 +9,7 @@ use borrow.Rule.Slice.PartMut.{putMid, midOf}
 use Rattle.rules.specs.Answers.{Side, mostOwed}
 use Rattle.records.specs.Layout.{lentKinds, lentCommand, lentSize}
 use Rattle.records.specs.declared.Control.{Control}
-use Rattle.steps.specs.declared.Fixed.{Fixed}
+use Rattle.rules.specs.declared.Fixed.{Fixed}
 use Rattle.steps.specs.declared.Written.{Written}
 use Rattle.steps.specs.Steps.{State}
 use Rattle.steps.specs.Takes.{commandIn, replyIn, stateIn, stateFrom, coreFrom, coreIn, kindsLent, addressesLent, stateLent, coreLent}

@@ -21,17 +21,11 @@ use records::layout::LENT_MAPPED;
 use records::layout::LENT_SIZE;
 use records::queue_full;
 use rules::Answer;
+use rules::Fixed;
 use rules::Kinds;
 
 mod octet;
 mod settling;
-
-// What a setup fixes: the client's address, its mapped address, and whether EPRT is supported.
-pub struct Fixed {
-    pub client: [u8; 16],
-    pub mapped: [u8; 4],
-    pub supported: bool,
-}
 
 // How many octets have been written into each buffer.
 pub struct Written {

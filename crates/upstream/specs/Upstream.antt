@@ -9,6 +9,7 @@ use Rattle.rules.specs.Lines.{judged, startsAuth}
 use Rattle.rules.specs.Commands.{command, commandOwes, commandSwitches}
 use Rattle.rules.specs.Replies.{isAuth}
 use Rattle.rules.specs.declared.Switches.{Switches}
+use Rattle.rules.specs.declared.Fixed.{Fixed}
 use Rattle.rules.specs.declared.Kind.{Kind}
 use Rattle.rules.specs.declared.Command.{Command}
 use Rattle.places.specs.declared.Place.{Place}
@@ -44,18 +45,18 @@ joinEffect sw held h =
     (clientEffectOf Gives.HeldAndOctet (at Place.Flowing 0) sw Owes.Nothing))
 
 -- by the place of the direction, and whether the octet is LF
-unfoldable pub placeEffect : List ℕ → Bool → Switches → Place → ℕ → List ℕ → Bool → ClientEffect
-placeEffect client supported sw Place.Holding held h true = judgedEffect sw (command client supported sw h)
-placeEffect client supported sw Place.Holding held h false = joinEffect sw held h
-placeEffect client supported sw Place.Flowing held h true = clientEffectOf Gives.Octet (at Place.Holding 0) sw (Owes.One Kind.Plain)
-placeEffect client supported sw Place.Flowing held h false = clientEffectOf Gives.Octet (at Place.Flowing 0) sw Owes.Nothing
-placeEffect client supported sw Place.Passing held h b = clientEffectOf Gives.Octet (at Place.Passing 0) sw Owes.Nothing
-placeEffect client supported sw Place.Ended held h b = clientEffectOf Gives.Nothing (at Place.Ended 0) sw Owes.Nothing
+unfoldable pub placeEffect : Fixed → Switches → Place → ℕ → List ℕ → Bool → ClientEffect
+placeEffect f sw Place.Holding held h true = judgedEffect sw (command f sw h)
+placeEffect f sw Place.Holding held h false = joinEffect sw held h
+placeEffect f sw Place.Flowing held h true = clientEffectOf Gives.Octet (at Place.Holding 0) sw (Owes.One Kind.Plain)
+placeEffect f sw Place.Flowing held h false = clientEffectOf Gives.Octet (at Place.Flowing 0) sw Owes.Nothing
+placeEffect f sw Place.Passing held h b = clientEffectOf Gives.Octet (at Place.Passing 0) sw Owes.Nothing
+placeEffect f sw Place.Ended held h b = clientEffectOf Gives.Nothing (at Place.Ended 0) sw Owes.Nothing
 
 -- line is the array that holds the client's octets
-unfoldable pub clientEffect : List ℕ → Bool → Switches → Direction → List ℕ → ℕ → ClientEffect
-clientEffect client supported sw d line x =
-    placeEffect client supported sw (d .place) (d .held) (take (d .held) line) (eqb x lf)
+unfoldable pub clientEffect : Fixed → Switches → Direction → List ℕ → ℕ → ClientEffect
+clientEffect f sw d line x =
+    placeEffect f sw (d .place) (d .held) (take (d .held) line) (eqb x lf)
 
 -- this page's definitions, for a proof that computes with them
 unfoldable pub upstream-opened : Unit {0}

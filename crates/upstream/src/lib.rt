@@ -15,6 +15,7 @@ use places::first_octets;
 use places::is_held;
 use queue::Owes;
 use rules::Command;
+use rules::Fixed;
 use rules::Kind;
 use rules::OwnAnswer;
 use rules::Switches;
@@ -139,22 +140,12 @@ fn join_effect(switches: Switches, held: usize, line: &[u8]) -> ClientEffect
 }
 
 // An octet of a client line whose octets are held in `line`.
-fn hold_effect(
-    client: [u8; 16],
-    supported: bool,
-    switches: Switches,
-    held: usize,
-    line: &[u8],
-    x: u8,
-) -> ClientEffect
-    ensures { λ r. ⌜ r ≡ placeEffect client supported switches Place.Holding held (take held (now (line .entry))) (eqb x lf) ⌝ }
+fn hold_effect(fixed: Fixed, switches: Switches, held: usize, line: &[u8], x: u8) -> ClientEffect
+    ensures { λ r. ⌜ r ≡ placeEffect fixed switches Place.Holding held (take held (now (line .entry))) (eqb x lf) ⌝ }
 {
     let octets = first_octets(line, held);
     if x == LF {
-        return judged_effect(
-            switches,
-            commands::command(octets, client, supported, switches),
-        );
+        return judged_effect(switches, commands::command(octets, fixed, switches));
     }
     join_effect(switches, held, octets)
 }
@@ -179,18 +170,17 @@ fn flow_effect(switches: Switches, x: u8) -> ClientEffect
 
 // What a client octet x does; `line` is the array that holds the client's octets.
 pub fn client_effect(
-    client: [u8; 16],
-    supported: bool,
+    fixed: Fixed,
     switches: Switches,
     direction: Direction,
     line: &[u8],
     x: u8,
 ) -> ClientEffect
-    ensures { λ r. ⌜ r ≡ clientEffect client supported switches direction (now (line .entry)) x ⌝ }
+    ensures { λ r. ⌜ r ≡ clientEffect fixed switches direction (now (line .entry)) x ⌝ }
 {
     let place = direction.place;
     match place {
-        Place::Holding => hold_effect(client, supported, switches, direction.held, line, x),
+        Place::Holding => hold_effect(fixed, switches, direction.held, line, x),
         Place::Flowing => flow_effect(switches, x),
         Place::Passing => unowed(Gives::Octet, Place::Passing, 0, switches),
         Place::Ended => unowed(Gives::Nothing, Place::Ended, 0, switches),

@@ -3,12 +3,15 @@
 use libc::STDIN_FILENO;
 use libc::STDOUT_FILENO;
 use rules::Command;
+use rules::Fixed;
+use rules::IPV4;
+use rules::IPV6;
 use rules::PassiveReply;
 use rules::ReplyLine;
 use rules::Switches;
 
 // 2001:db8:2::31
-const CLIENT: [u8; 16] = [
+const CLIENT: [u8; IPV6] = [
     0x20,
     0x01,
     0x0d,
@@ -27,7 +30,7 @@ const CLIENT: [u8; 16] = [
     0x31,
 ];
 
-const MAPPED: [u8; 4] = [192, 0, 2, 31];
+const MAPPED: [u8; IPV4] = [192, 0, 2, 31];
 
 // The two halves of an Adler-32, each below 65,521.
 struct Adler {
@@ -116,7 +119,12 @@ fn put_command(out: &mut [u8], line: &[u8]) -> usize {
         epsv: true,
         eprt: true,
     };
-    match commands::command(line, CLIENT, true, on) {
+    let fixed = Fixed {
+        client: CLIENT,
+        mapped: MAPPED,
+        supported: true,
+    };
+    match commands::command(line, fixed, on) {
         Command::Passes => output::put(out, 0, b"passes\n"),
         Command::Auth => output::put(out, 0, b"passes, AUTH\n"),
         Command::Passive => writers::put_pasv(out, 0),

@@ -12,11 +12,8 @@ extern "C" {
     fn fashlemor_setup(
         record: *mut u8,
         record_length: usize,
-        client: *const u8,
-        client_length: usize,
-        mapped: *const u8,
-        mapped_length: usize,
-        flags: u8,
+        setup: *const u8,
+        setup_length: usize,
     ) -> u8;
 
     fn fashlemor_arrive(
@@ -55,16 +52,13 @@ extern "C" {
 }
 
 /// Writes the record of a fresh session. Answers 0 or 5.
-pub fn setup(record: &mut [u8], client: &[u8], mapped: &[u8], flags: u8) -> u8 {
+pub fn setup(record: &mut [u8], setup: &[u8]) -> u8 {
     unsafe {
         fashlemor_setup(
             record.as_mut_ptr(),
             record.len(),
-            client.as_ptr(),
-            client.len(),
-            mapped.as_ptr(),
-            mapped.len(),
-            flags,
+            setup.as_ptr(),
+            setup.len(),
         )
     }
 }

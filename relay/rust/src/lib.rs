@@ -34,6 +34,9 @@ pub use ffi::{arrive, end, offset, setup};
 /// The octets of a record.
 pub const RECORD: usize = 1093;
 
+/// The octets of a setup: the two addresses and the flags.
+pub const SETUP: usize = 21;
+
 /// Direction of what the client sends.
 pub const CLIENT: u8 = 0;
 /// Direction of what the server sends.
@@ -74,7 +77,11 @@ impl Session {
     /// A fresh session, and 0; or 5 and a session that every call refuses by 4.
     pub fn setup(client: &[u8; 16], mapped: &[u8; 4], flags: u8) -> (Session, u8) {
         let mut record = [0; RECORD];
-        let answer = setup(&mut record, client, mapped, flags);
+        let mut octets = [0; SETUP];
+        octets[..16].copy_from_slice(client);
+        octets[16..20].copy_from_slice(mapped);
+        octets[20] = flags;
+        let answer = setup(&mut record, &octets);
         (Session { record }, answer)
     }
 

@@ -10,7 +10,7 @@ use Rattle.rules.specs.Answers.{Side, answerNumber}
 use Rattle.records.specs.Layout.{lentSize}
 use Rattle.records.specs.declared.Control.{Control}
 use Rattle.records.specs.Sound.{sideIf, Counted}
-use Rattle.steps.specs.declared.Fixed.{Fixed}
+use Rattle.rules.specs.declared.Fixed.{Fixed}
 use Rattle.steps.specs.declared.Written.{Written}
 use Rattle.steps.specs.Takes.{Core, addressesLent, fixedLent, stateLent, coreLent, isWithin, tookNext}
 use Rattle.steps.specs.Core.{Bounded}

@@ -61,7 +61,7 @@ returns-3 c = ap length (text-of _ _ _ (c .enum-told3 .given .1))
 returns-4 : tie.Need-returns-4
 unfolding givesText
 returns-4 c =
-    let a = c .before .before .before .before .args in
+    let a = c .before .before .before .before .before .args in
     ap (λ (n : ℕ). n + 1) (c .passed-length .ensures)
     ∙ (sym (length-append (passed (a .held .now)) (a .x ∷ [])) ∙ ap length (text-of _ _ _ (c .before .enum-told4 .given .1)))
 

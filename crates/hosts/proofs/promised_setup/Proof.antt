@@ -14,10 +14,10 @@ same-length c = search needs
 
 returns : tie.Need-returns
 returns c =
-    let a = c .before .before .before .before .before .before .before .args in
+    let a = c .before .before .before .before .before .before .args in
     let e = c .before .before .fashlemor-setup .ensures in
-    let octets = octets-all (a .mapped .now) (λ i less. omega (arith, c .before .before .before .before .shared-slice-known2 .given i)) in
-    (e .0, (e .1, λ done. fresh-promised (a .image .now) (a .client .now) (a .mapped .now) (a .flags) (e .0) (e .1) octets done))
+    let each = octets-all (a .setup .now) (λ i less. omega (arith, c .before .before .before .before .shared-slice-known .given i)) in
+    (e .0, (e .1, λ done. fresh-promised (a .image .now) (a .setup .now) (e .0) (e .1) each done))
 
 pub promised-setup-spec : {M : Type 1} → statement M
 promised-setup-spec = tie.close (tie.spec fashlemor-setup-requires same-length returns)

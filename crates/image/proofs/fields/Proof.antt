@@ -4,7 +4,8 @@ use Rattle.image.proofs.Reading.{copied, fields-read}
 use borrow.Author.Needs.{needs}
 use Rattle.rules.specs.Lines.{mostHeld}
 use Rattle.rules.specs.Answers.{mostOwed}
-use Rattle.records.specs.Layout.{clientAt, mappedAt, kindsAt, commandAt, replyAt, ipv6Width, ipv4Width}
+use Rattle.rules.specs.Setup.{ipv6Width, ipv4Width}
+use Rattle.records.specs.Layout.{clientAt, mappedAt, kindsAt, commandAt, replyAt}
 use Rattle.image.proofs.fields.Statement.{statement}
 use Rattle.image.proofs.fields.Tie as tie
 

@@ -24,8 +24,8 @@ put-requires-2 c κs = search needs
 
 slice-aggregate-put-3 : tie.Need-slice-aggregate-put-3
 slice-aggregate-put-3 c =
-    let start = c .before .before .before .before .before .before .before .before .before .before .before .before .before .before .before .before .before .before in
-    let later = start .good .1 .1 .0 .1 .1 .1 .1 .1 in
+    let start = c .before .before .before .before .before .before .before .before .before .before .before .before .before .before .before .before .before .before .before in
+    let later = start .good .1 .1 .0 .1 .1 .1 in
     let size : length (start .args .session .kinds) ≡ mostOwed = search needs in
     sym size
 
@@ -34,8 +34,8 @@ put-requires-3 c κs = search needs
 
 slice-aggregate-put-4 : tie.Need-slice-aggregate-put-4
 slice-aggregate-put-4 c =
-    let start = c .before .before .before .before .before .before .before .before .before .before .before .before .before .before .before .before .before .before .before .before .before .before .before in
-    let later = start .good .1 .1 .0 .1 .1 .1 .1 .1 in
+    let start = c .before .before .before .before .before .before .before .before .before .before .before .before .before .before .before .before .before .before .before .before .before .before .before .before in
+    let later = start .good .1 .1 .0 .1 .1 .1 in
     let size : length (start .args .session .command) ≡ mostHeld = search needs in
     sym size
 
@@ -44,8 +44,8 @@ put-requires-4 c κs = search needs
 
 slice-aggregate-put-5 : tie.Need-slice-aggregate-put-5
 slice-aggregate-put-5 c =
-    let start = c .before .before .before .before .before .before .before .before .before .before .before .before .before .before .before .before .before .before .before .before .before .before .before .before .before .before .before .before in
-    let later = start .good .1 .1 .0 .1 .1 .1 .1 .1 in
+    let start = c .before .before .before .before .before .before .before .before .before .before .before .before .before .before .before .before .before .before .before .before .before .before .before .before .before .before .before .before .before in
+    let later = start .good .1 .1 .0 .1 .1 .1 in
     let size : length (start .args .session .reply) ≡ mostHeld = search needs in
     sym size
 
@@ -58,7 +58,7 @@ same-length c = search needs
 returns : tie.Need-returns
 unfolding arraysOf
 returns c =
-    let a = c .before .before .before .before .before .before .before .before .before .before .before .before .before .before .before .before .before .before .before .before .before .before .before .before .before .before .before .before .before .before .before .args in
+    let a = c .before .before .before .before .before .before .before .before .before .before .before .before .before .before .before .before .before .before .before .before .before .before .before .before .before .before .before .before .before .before .before .before .args in
     let s = a .session in
     let p1 = c .before .before .before .before .before .before .before .before .before .before .before .before .before .before .before .before .before .before .before .before .before .before .put in
     let p2 = c .before .before .before .before .before .before .before .before .before .before .before .before .before .before .before .before .before .put2 in
@@ -68,9 +68,9 @@ returns c =
     let t5 = s .reply in
     let t4 = s .command ++ t5 in
     let t3 = s .kinds ++ t4 in
-    let t2 = s .mapped ++ t3 in
-    andThen (a .out .now) (a .at) (s .client) t2 (p1 .ensures)
-    (andThen (p1 .last .0) (p1 .result) (s .mapped) t3 (p2 .ensures)
+    let t2 = s .fixed .mapped ++ t3 in
+    andThen (a .out .now) (a .at) (s .fixed .client) t2 (p1 .ensures)
+    (andThen (p1 .last .0) (p1 .result) (s .fixed .mapped) t3 (p2 .ensures)
     (andThen (p2 .last .0) (p2 .result) (s .kinds) t4 (p3 .ensures)
     (andThen (p3 .last .0) (p3 .result) (s .command) t5 (p4 .ensures)
     (λ room. p5 .ensures))))

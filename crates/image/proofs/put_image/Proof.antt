@@ -39,9 +39,10 @@ same-length c = search needs
 returns-2 : tie.Need-returns-2
 unfolding imageOf marksOf numbersOf
 returns-2 c =
-    let start = c .before .before .before .before .before .before .before .before .before .before .before .before .before .before .before .before .before .before .before .before .before .before in
-    let known = start .good .1 .0 in
-    let later = start .good .1 .0 .1 .1 .1 .1 .1 in
+    let start = c .before .before .before .before .before .before .before .before .before .before .before .before .before .before .before .before .before .before .before .before .before .before .before in
+    let addresses = start .good .1 .0 .1 .0 in
+    let lines = start .good .1 .0 .1 .1 .1 in
+    let kinds = start .good .1 .0 .1 .1 .1 .1 .1 .0 in
     let a = start .args in
     let s = a .session in
     let size = image-length s (record { client = search needs; mapped = search needs; kinds = search needs; command = search needs; reply = search needs }) in
@@ -49,7 +50,7 @@ returns-2 c =
     (joined _ _ (numbersOf s) (arraysOf s)
     (numbers-put _ _ (s .control) (s .up) (s .down) (c .before .before .before .before .before .before .before .before .before .before .capped .ensures) (c .before .before .before .before .before .before .before .before .before .capped2 .ensures) (c .before .before .before .before .before .before .before .before .capped3 .ensures) (c .before .before .before .before .before .before .put-numbers .ensures))
     (c .before .before .put-arrays .ensures))
-    (omega (arith, c .before .before .before .before .before .before .before .before .before .before .before .before .before .before .before .before .before .before .before .before .if1 .left)) .1
+    (omega (arith, c .before .before .before .before .before .before .before .before .before .before .before .before .before .before .before .before .before .before .before .before .before .if1 .left)) .1
 
 pub put-image-spec : {M : Type 1} → statement M
 put-image-spec =

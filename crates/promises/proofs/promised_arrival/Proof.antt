@@ -8,7 +8,7 @@ use borrow.Author.Needs.{needs, length-unmapped, elem-fits-field}
 use Rattle.rules.specs.Lines.{judged, mostHeld}
 use Rattle.rules.specs.Demand3.{arrival}
 use Rattle.rules.specs.Answers.{mostOwed}
-use Rattle.records.specs.Layout.{ipv4Width}
+use Rattle.rules.specs.Setup.{ipv4Width}
 use Rattle.session.specs.Bounds.{Shaped}
 use Rattle.answers.proofs.Lengths.{octets-all}
 use Rattle.answers.proofs.Bounds.{progress}
@@ -32,11 +32,11 @@ unfolding judged
 shaped c =
     let start = c .before .before .before .before .before .before .before .before .before .before in
     let s = start .args .session in
-    let mapped = start .good .0 .1 .1 .1 .1 .0 .1 in
-    let lines = start .good .0 .1 .1 .1 .1 .1 .1 .1 in
+    let mapped = start .good .0 .1 .1 .1 .0 .1 .1 .1 .0 .1 in
+    let lines = start .good .0 .1 .1 .1 .1 .1 in
     record {
-      mapped = length-unmapped ℕ (s .mapped) ipv4Width (mapped .0 .1);
-      octets = octets-all (s .mapped) (λ i less. omega (arith, elem-fits-field w8 w8 (s .mapped) _ i (mapped .1) tt .fits));
+      mapped = length-unmapped ℕ (s .fixed .mapped) ipv4Width (mapped .0 .1);
+      octets = octets-all (s .fixed .mapped) (λ i less. omega (arith, elem-fits-field w8 w8 (s .fixed .mapped) _ i (mapped .1) tt .fits));
       command = length-unmapped ℕ (s .command) mostHeld (lines .0 .1 .0 .1);
       reply = length-unmapped ℕ (s .reply) mostHeld (lines .1 .0 .1 .0 .1);
       kinds = length-unmapped ℕ (s .kinds) mostOwed (lines .1 .1 .0 .1 .0 .1);

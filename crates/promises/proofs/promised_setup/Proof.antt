@@ -11,7 +11,7 @@ returns : tie.Need-returns
 returns c =
     let a = c .before .args in
     let e = c .setup .ensures in
-    (e, fresh-promised (a .client) (a .mapped) (a .flags) _ e)
+    (e, fresh-promised (a .setup) _ e)
 
 pub promised-setup-spec : {M : Type 1} → statement M
 promised-setup-spec = tie.close (tie.spec setup-requires returns)

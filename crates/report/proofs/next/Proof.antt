@@ -4,7 +4,7 @@ use native.Mathlib.Omega.{arith}
 use lib.Seq.{length-take-le}
 use borrow.Author.Tests.{not-true, not-false}
 use Rattle.fields.specs.Report.{outRoom}
-use Rattle.report.proofs.Due.{due, body-within, body-most, body-setup}
+use Rattle.report.proofs.Due.{due, body-within, body-most}
 use Rattle.report.proofs.Runs.{written-within}
 use Rattle.report.proofs.Parts.{over, next-put}
 use borrow.Author.Needs.{needs}
@@ -75,7 +75,7 @@ run-entry-requires c κs =
     let n = c .before .before .before .before .before .before .before .pair-at in
     let e = (sym (c .before .before .before .before .before .before .before .before .before .is-due .ensures) ∙ not-false _ (c .before .before .before .before .before .before .before .before .if1 .left)) in (
       body-most (a .file .now) (a .replay) e (n .ensures .0),
-      (body-setup (a .file .now) (a .replay) e (n .ensures .0), (sym (c .before .before .before .before .before .empty .ensures), sym (c .before .before .before .before .empty2 .ensures))),
+      (sym (c .before .before .before .before .before .empty .ensures), sym (c .before .before .before .before .empty2 .ensures)),
     )
 
 add-t32 : tie.Need-add-t32

@@ -11,7 +11,7 @@ use Rattle.report.proofs.run_entry.Statement.{statement}
 use Rattle.report.proofs.run_entry.Tie as tie
 
 set-up-requires : tie.Need-set-up-requires
-set-up-requires c κs = c .before .before .before .before .pre .1 .0 (c .if1 .taken)
+set-up-requires c κs = search needs
 
 returns : tie.Need-returns
 returns c =
@@ -40,7 +40,7 @@ returns-2 c =
     let a = c .before .before .before .before .before .before .before .before .before .before .before .before .before .args in
     kept-call _ (endCalled (a .session) (a .kind - 2) (length (a .to-server .now)) (length (a .to-client .now))) 0 (a .to-server .now) (a .to-client .now)
     (told-ended (a .session) (a .kind - 2) (length (a .to-server .now)) (length (a .to-client .now)))
-    (rw (pre .1 .1 .0, pre .1 .1 .1) (ends (a .session) (a .kind) (a .body .now) (c .before .before .before .before .before .before .before .before .if2 .taken) (c .before .before .before .before .before .before .before .before .before .if1 .left)))
+    (rw (pre .1 .0, pre .1 .1) (ends (a .session) (a .kind) (a .body .now) (c .before .before .before .before .before .before .before .before .if2 .taken) (c .before .before .before .before .before .before .before .before .before .if1 .left)))
     (k .ensures .0)
     (c .ran-of .ensures)
     (k .ensures .1 .0)
@@ -69,7 +69,7 @@ returns-3 c =
     let a = c .before .before .before .before .before .before .before .before .before .before .before .before .before .args in
     kept-call _ (arrived (a .session) (a .kind) (a .body .now) (length (a .to-server .now)) (length (a .to-client .now))) (length (a .body .now)) (a .to-server .now) (a .to-client .now)
     (told-arrived (a .session) (a .kind) (a .body .now) (length (a .to-server .now)) (length (a .to-client .now)))
-    (rw (pre .1 .1 .0, pre .1 .1 .1) (arrives (a .session) (a .kind) (a .body .now) (c .before .before .before .before .before .before .before .before .if2 .left)))
+    (rw (pre .1 .0, pre .1 .1) (arrives (a .session) (a .kind) (a .body .now) (c .before .before .before .before .before .before .before .before .if2 .left)))
     (k .ensures .0)
     (c .ran-of2 .ensures)
     (k .ensures .1 .0)

@@ -11,7 +11,7 @@ counts-then-requires c κs = search needs
 
 returns : tie.Need-returns
 returns c =
-    let a = c .before .before .before .before .before .before .before .args in
+    let a = c .before .before .before .before .before .before .args in
     let counts = c .before .before .counts-then .ensures in
     advanced (a .session) (sideIf (a .from-client)) (a .taken) (a .written .server) (a .written .client) (stateFrom (a .control) (a .command) (a .reply) (a .kinds))
     (counts .0) (counts .1)

@@ -4,7 +4,7 @@ use lib.ListN.{length}
 use borrow.Author.Needs.{needs}
 use Rattle.rules.specs.Lines.{mostHeld}
 use Rattle.rules.specs.Answers.{mostOwed}
-use Rattle.records.specs.Layout.{ipv6Width, ipv4Width}
+use Rattle.rules.specs.Setup.{ipv6Width, ipv4Width}
 use Rattle.session.proofs.Lines.{all-laid}
 use Rattle.session.proofs.laid.Statement.{statement}
 use Rattle.session.proofs.laid.Tie as tie

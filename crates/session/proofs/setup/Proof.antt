@@ -1,5 +1,5 @@
 -- `session::setup` meets its contract. Each way out is one law of the flags.
-use mathlib.Core.Path.{_∙_}
+use mathlib.Core.Path.{refl, _∙_}
 use mathlib.Core.Logic.{⊎-elim}
 use borrow.Author.Needs.{needs}
 use Rattle.session.proofs.Flags.{undefined-flag, unsupported, fresh}
@@ -10,7 +10,7 @@ refused-setup-requires : tie.Need-refused-setup-requires
 refused-setup-requires c κs = search needs
 
 returns : tie.Need-returns
-returns c = let a = c .before .before .args in c .refused-setup .ensures ∙ undefined-flag (a .client) (a .mapped) (a .flags) (c .before .if1 .taken)
+returns c = let a = c .before .before .args in c .refused-setup .ensures ∙ undefined-flag (a .setup) refl (c .before .if1 .taken)
 
 refused-setup-requires-2 : tie.Need-refused-setup-requires-2
 refused-setup-requires-2 c κs = search needs
@@ -18,16 +18,16 @@ refused-setup-requires-2 c κs = search needs
 returns-2 : tie.Need-returns-2
 returns-2 c =
     let a = c .before .before .before .before .args in
-    c .refused-setup2 .ensures ∙ unsupported (a .client) (a .mapped) (a .flags) (c .before .before .before .if1 .left) (c .before .before .if2 .taken) (c .before .if3 .taken)
+    c .refused-setup2 .ensures ∙ unsupported (a .setup) refl (c .before .before .before .if1 .left) (c .before .before .if2 .taken) (c .before .if3 .taken)
 
 start-requires : tie.Need-start-requires
 start-requires c κs = search needs
 
 returns-3 : tie.Need-returns-3
 returns-3 c =
-    let a = c .before .before .before .args in
-    fresh (a .client) (a .mapped) (a .flags) (c .before .before .if1 .left)
-    (⊎-elim (λ w. rw (w .0 .taken, w .1 .left)) (λ w. rw (w .left)) (c .before .if2 .came))
+    let a = c .before .before .before .before .before .args in
+    fresh (a .setup) refl (c .before .before .before .before .if1 .left)
+    (⊎-elim (λ w. rw (w .0 .taken, w .1 .left)) (λ w. rw (w .left)) (c .before .before .before .if2 .came))
     (c .start .ensures)
 
 pub setup-spec : {M : Type 1} → statement M

@@ -5,7 +5,8 @@ use lib.ListN.{take, drop, length-drop}
 use lib.Seq.{length-take-le}
 use Rattle.output.proofs.Front.{filled}
 use borrow.Author.Needs.{needs}
-use Rattle.records.specs.Layout.{ipv6Width, ipv4Width, lentMapped}
+use Rattle.rules.specs.Setup.{ipv6Width, ipv4Width}
+use Rattle.records.specs.Layout.{lentMapped}
 use Rattle.steps.proofs.fixed_in.Statement.{statement}
 use Rattle.steps.proofs.fixed_in.Tie as tie
 

@@ -31,18 +31,18 @@ unowed-requires-2 : tie.Need-unowed-requires-2
 unowed-requires-2 c κs = search needs
 
 returns : tie.Need-returns
-returns c = c .hold-effect .ensures ∙ client-place _ _ _ _ _ _ (c .before .enum-told .given .1)
+returns c = c .hold-effect .ensures ∙ client-place _ _ _ _ _ (c .before .enum-told .given .1)
 
 returns-2 : tie.Need-returns-2
-returns-2 c = c .flow-effect .ensures ∙ client-flowing _ _ _ _ _ _ ∙ client-place _ _ _ _ _ _ (c .before .enum-told2 .given .1)
+returns-2 c = c .flow-effect .ensures ∙ client-flowing _ _ _ _ _ ∙ client-place _ _ _ _ _ (c .before .enum-told2 .given .1)
 
 returns-3 : tie.Need-returns-3
 unfolding placeEffect
-returns-3 c = c .unowed .ensures ∙ client-place _ _ _ _ _ _ (c .before .enum-told3 .given .1)
+returns-3 c = c .unowed .ensures ∙ client-place _ _ _ _ _ (c .before .enum-told3 .given .1)
 
 returns-4 : tie.Need-returns-4
 unfolding placeEffect
-returns-4 c = c .unowed2 .ensures ∙ client-place _ _ _ _ _ _ (c .before .enum-told4 .given .1)
+returns-4 c = c .unowed2 .ensures ∙ client-place _ _ _ _ _ (c .before .enum-told4 .given .1)
 
 pub client-effect-spec : {M : Type 1} → statement M
 client-effect-spec =

@@ -19,7 +19,7 @@ judged-effect-requires c κs = search needs
 returns : tie.Need-returns
 unfolding placeEffect
 returns c = rw (eq-eqb _ _ (c .before .before .if1 .taken))
-    (c .judged-effect .ensures ∙ ap (judgedEffect _) (c .before .command .ensures ∙ ap (command _ _ _) (c .before .before .before .first-octets .ensures)))
+    (c .judged-effect .ensures ∙ ap (judgedEffect _) (c .before .command .ensures ∙ ap (command _ _) (c .before .before .before .first-octets .ensures)))
 
 join-effect-requires : tie.Need-join-effect-requires
 join-effect-requires c κs = search needs
