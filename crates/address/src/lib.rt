@@ -9,7 +9,9 @@ ghost use Prim.Native.Nat.{_+_, _<_, _≤_};
 ghost use lib.ListN.{length};
 ghost use lib.Seq.{paste};
 ghost use Rattle.rules.specs.Octets.{choose, colon, dot, parts};
-ghost use Rattle.rules.specs.Address.{hexDigit, hexDigitValue, group as groupOf, both, octetNumber, dotted as dottedOf, lastGroup, groups as groupsOf, half as halfOf, halves as halvesOf, eightGroups, filled as filledOf, ipv6 as ipv6Of};
+ghost use Rattle.rules.specs.Address.{hexDigit, hexDigitValue, group as groupOf, both, octetNumber, dotted as dottedOf};
+ghost use Rattle.rules.specs.Address.{lastGroup, groups as groupsOf, half as halfOf, halves as halvesOf, eightGroups};
+ghost use Rattle.rules.specs.Address.{filled as filledOf, ipv6 as ipv6Of};
 ghost use Rattle.address.specs.Text.{ipv6Read, groupGives, octetsOf, Reads, halvesAt};
 
 // An address that a text writes, or none, and then the octets are zeros.
@@ -205,8 +207,8 @@ fn half(text: &[u8], ends: bool) -> Reading
 
 // Where the first `::` stands, or the end of the text.
 fn double_colon(text: &[u8]) -> usize
-    ensures { λ r. ⌜ halvesOf (now (text .entry)) ≡ halvesAt r (now (text .entry)) ⌝ }
-    ensures { λ r. ⌜ (r < length (now (text .entry)) → r + 1 < length (now (text .entry))) ⌝ }
+    ensures result { λ r. ⌜ halvesOf (now (text .entry)) ≡ halvesAt r (now (text .entry)) ⌝ }
+    ensures within { λ r. ⌜ (r < length (now (text .entry)) → r + 1 < length (now (text .entry))) ⌝ }
 {
     let mut i = 0;
     while i + 1 < text.len() {

@@ -1,1 +1,2 @@
-// What document 01's table of answers says, and how much one octet writes: theorems about the session's definitions, no code.
+// What document 01's table of answers says, and how much one octet writes: theorems about the session's definitions,
+// no code.

@@ -47,11 +47,13 @@ pub fn take(
     to_server: &mut [u8],
     to_client: &mut [u8],
 ) -> Taken
-    ensures { λ r.
+    ensures given { λ r.
         let server = now («to_server» .entry) in
         let client = now («to_client» .entry) in
-        let t = tookIn supported (sideIf «from_client») start (now (lent .entry)) (now (octets .entry)) (length server) (length client) in
-        let after = coreLent (r .control) (now (lent .exit)) (now («to_server» .exit)) (now («to_client» .exit)) (r .written) in
+        let t = tookIn supported (sideIf «from_client») start (now (lent .entry)) (now (octets .entry))
+        (length server) (length client) in
+        let after = coreLent (r .control) (now (lent .exit)) (now («to_server» .exit)) (now («to_client» .exit))
+        (r .written) in
         ⌜ Given t server client (r .answer) (r .taken) after ⌝ }
     ensures fixed { λ _. ⌜ addressesLent (now (lent .exit)) ≡ addressesLent (now (lent .entry)) ⌝ }
     ensures counts { λ r. ⌜ (Counted start → Counted (r .control)) ⌝ }
@@ -76,7 +78,12 @@ pub fn take(
 // What is refused as a record that can't be.
 fn nothing_taken(control: Control) -> Taken
     ensures { λ r.
-        ⌜ r ≡ record { answer = Answer.BadRecord; taken = 0; control = control; written = record { server = 0; client = 0 } } ⌝ }
+        ⌜ r ≡ record {
+          answer = Answer.BadRecord;
+          taken = 0;
+          control = control;
+          written = record { server = 0; client = 0 };
+        } ⌝ }
 {
     Taken {
         answer: Answer::BadRecord,
@@ -99,14 +106,16 @@ fn take_each(
     to_server: &mut [u8],
     to_client: &mut [u8],
 ) -> Taken
-    requires { ⌜ Counted start ⌝ }
-    requires { ⌜ length (now lent) ≡ lentSize ⌝ }
-    ensures { λ r.
+    requires counts { ⌜ Counted start ⌝ }
+    requires lengths { ⌜ length (now lent) ≡ lentSize ⌝ }
+    ensures given { λ r.
         let server = now («to_server» .entry) in
         let client = now («to_client» .entry) in
         let fixed = fixedLent supported (now (lent .entry)) in
-        let t = takes fixed (sideIf «from_client») (stateLent start (now (lent .entry))) (now (octets .entry)) (length server) (length client) in
-        let after = coreLent (r .control) (now (lent .exit)) (now («to_server» .exit)) (now («to_client» .exit)) (r .written) in
+        let t = takes fixed (sideIf «from_client») (stateLent start (now (lent .entry))) (now (octets .entry))
+        (length server) (length client) in
+        let after = coreLent (r .control) (now (lent .exit)) (now («to_server» .exit)) (now («to_client» .exit))
+        (r .written) in
         ⌜ Given t server client (r .answer) (r .taken) after ⌝ }
     ensures fixed { λ _. ⌜ addressesLent (now (lent .exit)) ≡ addressesLent (now (lent .entry)) ⌝ }
     ensures counts { λ r. ⌜ Counted (r .control) ⌝ }
@@ -203,11 +212,12 @@ fn next_run(
     to_client: &mut [u8],
     written: Written,
 ) -> RunPart
-    requires { ⌜ Bounded control written (now «to_server») (now «to_client») ⌝ }
-    requires { ⌜ (i ≤ length (now octets)) × (length (now lent) ≡ lentSize) ⌝ }
-    ensures { λ r.
+    requires bounds { ⌜ Bounded control written (now «to_server») (now «to_client») ⌝ }
+    requires within { ⌜ (i ≤ length (now octets)) × (length (now lent) ≡ lentSize) ⌝ }
+    ensures ran { λ r.
         let k = coreLent control (now (lent .entry)) (now («to_server» .entry)) (now («to_client» .entry)) written in
-        let m = coreLent (r .control) (now (lent .exit)) (now («to_server» .exit)) (now («to_client» .exit)) (r .written) in
+        let m = coreLent (r .control) (now (lent .exit)) (now («to_server» .exit)) (now («to_client» .exit))
+        (r .written) in
         ⌜ ((fixed : Fixed) → Ran fixed (sideIf «from_client») (now (octets .entry)) k i m (r .taken)) ⌝ }
     ensures fixed { λ _. ⌜ addressesLent (now (lent .exit)) ≡ addressesLent (now (lent .entry)) ⌝ }
 {

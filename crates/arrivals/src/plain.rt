@@ -1,6 +1,6 @@
 // Plain lines: they pass as they are, and nothing leaves the queue behind them but the kind that a reply is for. Most
-// lines are such. They are taken here with a few numbers in hand; any other goes the way of every octet. A plain line of
-// the client owes a plain kind, but others do too: a translated EPRT is no plain line.
+// lines are such. They are taken here with a few numbers in hand; any other goes the way of every octet. A plain line
+// of the client owes a plain kind, but others do too: a translated EPRT is no plain line.
 ghost use mathlib.Core.Path.{_≡_};
 ghost use mathlib.Core.Bool.{true, false};
 ghost use mathlib.Core.List.{List};
@@ -38,8 +38,8 @@ use rules::OWED;
 use rules::ReplyLine;
 use steps::Written;
 
-// How far one plain line of the client, or several, reach, and whether another may follow; and how many octets are held,
-// replies owed and octets written then.
+// How far one plain line of the client, or several, reach, and whether another may follow; and how many octets are
+// held, replies owed and octets written then.
 pub struct Said {
     pub more: bool,
     pub taken: usize,
@@ -72,7 +72,9 @@ fn text<'a>(held: usize, part: &'a [u8], line: &'a [u8]) -> &'a [u8]
 
 // An LF stands at j, and there is room for it and the n octets before it.
 fn may_end(octets: &[u8], j: usize, n: usize, room: usize) -> bool
-    ensures { λ r. ⌜ (r ≡ true → (j < length (now (octets .entry))) × (getD (now (octets .entry)) j 0 ≡ lf) × (n < room)) ⌝ }
+    ensures { λ r.
+        let l = now (octets .entry) in
+        ⌜ (r ≡ true → (j < length l) × (getD l j 0 ≡ lf) × (n < room)) ⌝ }
 {
     if octets.len() <= j {
         return false;
@@ -93,8 +95,8 @@ fn client_line(
     to_server: &mut [u8],
     at: usize,
 ) -> Said
-    requires { ⌜ (held ≤ mostHeld) × (owed < mostOwed) × (isStill (kindsLent (now lent)) 0 owed ≡ true) ⌝ }
-    requires { ⌜ (i ≤ length (now octets)) × (length (now lent) ≡ lentSize) × (at ≤ length (now «to_server»)) ⌝ }
+    requires counts { ⌜ (held ≤ mostHeld) × (owed < mostOwed) × (isStill (kindsLent (now lent)) 0 owed ≡ true) ⌝ }
+    requires within { ⌜ (i ≤ length (now octets)) × (length (now lent) ≡ lentSize) × (at ≤ length (now «to_server»)) ⌝ }
     ensures ran { λ r.
         ⌜ SaidPlain (now (octets .entry)) i held owed (now (lent .entry)) (now («to_server» .entry)) at r
         (now (lent .exit)) (now («to_server» .exit)) ⌝ }
@@ -135,8 +137,9 @@ fn client_lines(
     to_server: &mut [u8],
     first: usize,
 ) -> Said
-    requires { ⌜ (start ≤ mostHeld) × (before ≤ mostOwed) × (isStill (kindsLent (now lent)) 0 before ≡ true) ⌝ }
-    requires { ⌜ (from ≤ length (now octets)) × (length (now lent) ≡ lentSize) × (first ≤ length (now «to_server»)) ⌝ }
+    requires counts { ⌜ (start ≤ mostHeld) × (before ≤ mostOwed) × (isStill (kindsLent (now lent)) 0 before ≡ true) ⌝ }
+    requires within { ⌜ (from ≤ length (now octets)) × (length (now lent) ≡ lentSize)
+        × (first ≤ length (now «to_server»)) ⌝ }
     ensures { λ r.
         ⌜ SaidPlain (now (octets .entry)) from start before (now (lent .entry)) (now («to_server» .entry)) first r
         (now (lent .exit)) (now («to_server» .exit)) ⌝ }
@@ -220,8 +223,8 @@ fn server_line(
     to_client: &mut [u8],
     at: usize,
 ) -> Answered
-    requires { ⌜ (held ≤ mostHeld) × (owed ≤ mostOwed) × (isStill (kindsLent (now lent)) 0 owed ≡ true) ⌝ }
-    requires { ⌜ (i ≤ length (now octets)) × (length (now lent) ≡ lentSize) × (at ≤ length (now «to_client»)) ⌝ }
+    requires counts { ⌜ (held ≤ mostHeld) × (owed ≤ mostOwed) × (isStill (kindsLent (now lent)) 0 owed ≡ true) ⌝ }
+    requires within { ⌜ (i ≤ length (now octets)) × (length (now lent) ≡ lentSize) × (at ≤ length (now «to_client»)) ⌝ }
     ensures ran { λ r.
         ⌜ AnsweredPlain (now (octets .entry)) i held owed unfinished (now (lent .entry)) (now («to_client» .entry)) at r
         (now (lent .exit)) (now («to_client» .exit)) ⌝ }
@@ -269,11 +272,12 @@ fn server_lines(
     to_client: &mut [u8],
     first: usize,
 ) -> Answered
-    requires { ⌜ (start ≤ mostHeld) × (before ≤ mostOwed) × (isStill (kindsLent (now lent)) 0 before ≡ true) ⌝ }
-    requires { ⌜ (from ≤ length (now octets)) × (length (now lent) ≡ lentSize) × (first ≤ length (now «to_client»)) ⌝ }
+    requires counts { ⌜ (start ≤ mostHeld) × (before ≤ mostOwed) × (isStill (kindsLent (now lent)) 0 before ≡ true) ⌝ }
+    requires within { ⌜ (from ≤ length (now octets)) × (length (now lent) ≡ lentSize)
+        × (first ≤ length (now «to_client»)) ⌝ }
     ensures { λ r.
-        ⌜ AnsweredPlain (now (octets .entry)) from start before reply (now (lent .entry)) (now («to_client» .entry)) first r
-        (now (lent .exit)) (now («to_client» .exit)) ⌝ }
+        ⌜ AnsweredPlain (now (octets .entry)) from start before reply (now (lent .entry)) (now («to_client» .entry))
+        first r (now (lent .exit)) (now («to_client» .exit)) ⌝ }
 {
     let mut held = start;
     let mut owed = before;
@@ -310,9 +314,10 @@ fn plain_commands(
     to_server: &mut [u8],
     written: Written,
 ) -> RunPart
-    requires { ⌜ Counted control × (isStill (kindsLent (now lent)) 0 (control .owed) ≡ true) ⌝ }
-    requires { ⌜ (i ≤ length (now octets)) × (length (now lent) ≡ lentSize) × (written .server ≤ length (now «to_server»)) ⌝ }
-    ensures { λ r.
+    requires counts { ⌜ Counted control × (isStill (kindsLent (now lent)) 0 (control .owed) ≡ true) ⌝ }
+    requires within { ⌜ (i ≤ length (now octets)) × (length (now lent) ≡ lentSize)
+        × (written .server ≤ length (now «to_server»)) ⌝ }
+    ensures ran { λ r.
         let l = now (octets .entry) in
         let out = now («to_server» .entry) in
         let after = now («to_server» .exit) in
@@ -361,9 +366,10 @@ fn plain_replies(
     to_client: &mut [u8],
     written: Written,
 ) -> RunPart
-    requires { ⌜ Counted control × (isStill (kindsLent (now lent)) 0 (control .owed) ≡ true) ⌝ }
-    requires { ⌜ (i ≤ length (now octets)) × (length (now lent) ≡ lentSize) × (written .client ≤ length (now «to_client»)) ⌝ }
-    ensures { λ r.
+    requires counts { ⌜ Counted control × (isStill (kindsLent (now lent)) 0 (control .owed) ≡ true) ⌝ }
+    requires within { ⌜ (i ≤ length (now octets)) × (length (now lent) ≡ lentSize)
+        × (written .client ≤ length (now «to_client»)) ⌝ }
+    ensures ran { λ r.
         let l = now (octets .entry) in
         let out = now («to_client» .entry) in
         let after = now («to_client» .exit) in
@@ -415,11 +421,12 @@ pub fn plain_lines(
     to_client: &mut [u8],
     written: Written,
 ) -> RunPart
-    requires { ⌜ Bounded control written (now «to_server») (now «to_client») ⌝ }
-    requires { ⌜ (i ≤ length (now octets)) × (length (now lent) ≡ lentSize) ⌝ }
-    ensures { λ r.
+    requires bounds { ⌜ Bounded control written (now «to_server») (now «to_client») ⌝ }
+    requires within { ⌜ (i ≤ length (now octets)) × (length (now lent) ≡ lentSize) ⌝ }
+    ensures ran { λ r.
         let k = coreLent control (now (lent .entry)) (now («to_server» .entry)) (now («to_client» .entry)) written in
-        let m = coreLent (r .control) (now (lent .exit)) (now («to_server» .exit)) (now («to_client» .exit)) (r .written) in
+        let m = coreLent (r .control) (now (lent .exit)) (now («to_server» .exit)) (now («to_client» .exit))
+        (r .written) in
         ⌜ ((fixed : Fixed) → Ran fixed (sideIf «from_client») (now (octets .entry)) k i m (r .taken)) ⌝ }
     ensures fixed { λ _. ⌜ addressesLent (now (lent .exit)) ≡ addressesLent (now (lent .entry)) ⌝ }
 {

@@ -41,8 +41,8 @@ pub struct RunPart {
     pub written: Written,
 }
 
-// Nothing is left to settle: no own answer leaves the queue, and AUTH is not first or its step is done, as it is where the
-// server passes or has ended. It may say no where that holds; the octets are then taken one by one.
+// Nothing is left to settle: no own answer leaves the queue, and AUTH is not first or its step is done, as it is
+// where the server passes or has ended. It may say no where that holds; the octets are then taken one by one.
 fn is_settled(control: Control, kinds: Kinds) -> bool
     ensures { λ r. ⌜ (r ≡ true → Quiet control kinds) ⌝ }
 {
@@ -77,8 +77,8 @@ fn least(a: usize, b: usize) -> usize
 // arrival would be searched to its end for each line or room that is full before.
 fn no_lf_end(octets: &[u8], i: usize, most: usize) -> usize
     requires { ⌜ i ≤ length (now octets) ⌝ }
-    ensures { λ r. ⌜ (i ≤ r) × (r ≤ length (now (octets .entry))) × (r - i ≤ most) ⌝ }
-    ensures { λ r. ⌜ every (isNot lf) (take (r - i) (drop i (now (octets .entry)))) ≡ true ⌝ }
+    ensures within { λ r. ⌜ (i ≤ r) × (r ≤ length (now (octets .entry))) × (r - i ≤ most) ⌝ }
+    ensures run { λ r. ⌜ every (isNot lf) (take (r - i) (drop i (now (octets .entry)))) ≡ true ⌝ }
 {
     let e = i + least(octets.len() - i, most);
     let n = find_lf(&octets[i..e], 0);
@@ -88,9 +88,11 @@ fn no_lf_end(octets: &[u8], i: usize, most: usize) -> usize
 // The octets from i on that are no LF, as many as may be held, are put behind those held; where they end.
 pub fn hold_run(octets: &[u8], i: usize, line: &mut [u8], held: usize) -> usize
     requires { ⌜ (i ≤ length (now octets)) × (held ≤ length (now line)) ⌝ }
-    ensures end { λ r. ⌜ (i ≤ r) × (r ≤ length (now (octets .entry))) × (held + (r - i) ≤ length (now (line .entry))) ⌝ }
+    ensures within { λ r.
+        ⌜ (i ≤ r) × (r ≤ length (now (octets .entry))) × (held + (r - i) ≤ length (now (line .entry))) ⌝ }
     ensures run { λ r. ⌜ every (isNot lf) (take (r - i) (drop i (now (octets .entry)))) ≡ true ⌝ }
-    ensures held { λ r. ⌜ now (line .exit) ≡ putAt (now (line .entry)) held (take (r - i) (drop i (now (octets .entry)))) ⌝ }
+    ensures buffer { λ r.
+        ⌜ now (line .exit) ≡ putAt (now (line .entry)) held (take (r - i) (drop i (now (octets .entry)))) ⌝ }
 {
     let j = no_lf_end(octets, i, line.len() - held);
     put(line, held, &octets[i..j]);
@@ -106,14 +108,15 @@ fn client_pass(
     to_server: &mut [u8],
     written: Written,
 ) -> RunPart
-    requires { ⌜ control .client ≡ at Place.Passing 0 ⌝ }
-    requires { ⌜ Quiet control kinds ⌝ }
-    requires { ⌜ (i ≤ length (now octets)) × (written .server ≤ length (now «to_server»)) ⌝ }
+    requires place { ⌜ control .client ≡ at Place.Passing 0 ⌝ }
+    requires quiet { ⌜ Quiet control kinds ⌝ }
+    requires within { ⌜ (i ≤ length (now octets)) × (written .server ≤ length (now «to_server»)) ⌝ }
     ensures { λ r.
         let l = now (octets .entry) in
         let out = now («to_server» .entry) in
         let after = now («to_server» .exit) in
-        ⌜ ((line : List ℕ) → ClientRan kinds l i control line out written (r .control) line after (r .written) (r .taken)) ⌝ }
+        ⌜ ((line : List ℕ)
+        → ClientRan kinds l i control line out written (r .control) line after (r .written) (r .taken)) ⌝ }
 {
     let at = written.server;
     let j = i + least(octets.len() - i, to_server.len() - at);
@@ -137,15 +140,16 @@ fn client_flow(
     to_server: &mut [u8],
     written: Written,
 ) -> RunPart
-    requires { ⌜ control .client ≡ at Place.Flowing 0 ⌝ }
-    requires { ⌜ Quiet control kinds ⌝ }
-    requires { ⌜ isQueueFull client (passes (control .client .place)) (control .owed) ≡ false ⌝ }
-    requires { ⌜ (i ≤ length (now octets)) × (written .server ≤ length (now «to_server»)) ⌝ }
+    requires place { ⌜ control .client ≡ at Place.Flowing 0 ⌝ }
+    requires quiet { ⌜ Quiet control kinds ⌝ }
+    requires queue { ⌜ isQueueFull client (passes (control .client .place)) (control .owed) ≡ false ⌝ }
+    requires within { ⌜ (i ≤ length (now octets)) × (written .server ≤ length (now «to_server»)) ⌝ }
     ensures { λ r.
         let l = now (octets .entry) in
         let out = now («to_server» .entry) in
         let after = now («to_server» .exit) in
-        ⌜ ((line : List ℕ) → ClientRan kinds l i control line out written (r .control) line after (r .written) (r .taken)) ⌝ }
+        ⌜ ((line : List ℕ)
+        → ClientRan kinds l i control line out written (r .control) line after (r .written) (r .taken)) ⌝ }
 {
     let at = written.server;
     let j = no_lf_end(octets, i, to_server.len() - at);
@@ -169,11 +173,11 @@ fn client_hold(
     command: &mut [u8],
     written: Written,
 ) -> RunPart
-    requires { ⌜ (control .client .place ≡ Place.Holding) × (control .client .held ≤ mostHeld) ⌝ }
-    requires { ⌜ length (now command) ≡ mostHeld ⌝ }
-    requires { ⌜ Quiet control kinds ⌝ }
-    requires { ⌜ isQueueFull client (passes (control .client .place)) (control .owed) ≡ false ⌝ }
-    requires { ⌜ i ≤ length (now octets) ⌝ }
+    requires place { ⌜ (control .client .place ≡ Place.Holding) × (control .client .held ≤ mostHeld) ⌝ }
+    requires lengths { ⌜ length (now command) ≡ mostHeld ⌝ }
+    requires quiet { ⌜ Quiet control kinds ⌝ }
+    requires queue { ⌜ isQueueFull client (passes (control .client .place)) (control .owed) ≡ false ⌝ }
+    requires within { ⌜ i ≤ length (now octets) ⌝ }
     ensures { λ r.
         let l = now (octets .entry) in
         let line = now (command .entry) in
@@ -206,15 +210,16 @@ fn client_run(
     to_server: &mut [u8],
     written: Written,
 ) -> RunPart
-    requires { ⌜ (control .client .held ≤ mostHeld) × (length (now command) ≡ mostHeld) ⌝ }
-    requires { ⌜ isQueueFull client (passes (control .client .place)) (control .owed) ≡ false ⌝ }
-    requires { ⌜ (i ≤ length (now octets)) × (written .server ≤ length (now «to_server»)) ⌝ }
+    requires lengths { ⌜ (control .client .held ≤ mostHeld) × (length (now command) ≡ mostHeld) ⌝ }
+    requires queue { ⌜ isQueueFull client (passes (control .client .place)) (control .owed) ≡ false ⌝ }
+    requires within { ⌜ (i ≤ length (now octets)) × (written .server ≤ length (now «to_server»)) ⌝ }
     ensures { λ r.
         let l = now (octets .entry) in
         let line = now (command .entry) in
         let out = now («to_server» .entry) in
         let after = now (command .exit) in
-        ⌜ ClientRan kinds l i control line out written (r .control) after (now («to_server» .exit)) (r .written) (r .taken) ⌝ }
+        ⌜ ClientRan kinds l i control line out written
+        (r .control) after (now («to_server» .exit)) (r .written) (r .taken) ⌝ }
 {
     if !is_settled(control, kinds) {
         return RunPart {
@@ -256,14 +261,15 @@ fn server_pass(
     to_client: &mut [u8],
     written: Written,
 ) -> RunPart
-    requires { ⌜ control .server ≡ at Place.Passing 0 ⌝ }
-    requires { ⌜ Quiet control kinds ⌝ }
-    requires { ⌜ (i ≤ length (now octets)) × (written .client ≤ length (now «to_client»)) ⌝ }
+    requires place { ⌜ control .server ≡ at Place.Passing 0 ⌝ }
+    requires quiet { ⌜ Quiet control kinds ⌝ }
+    requires within { ⌜ (i ≤ length (now octets)) × (written .client ≤ length (now «to_client»)) ⌝ }
     ensures { λ r.
         let l = now (octets .entry) in
         let out = now («to_client» .entry) in
         let after = now («to_client» .exit) in
-        ⌜ ((line : List ℕ) → ServerRan kinds l i control line out written (r .control) line after (r .written) (r .taken)) ⌝ }
+        ⌜ ((line : List ℕ)
+        → ServerRan kinds l i control line out written (r .control) line after (r .written) (r .taken)) ⌝ }
 {
     let at = written.client;
     let j = i + least(octets.len() - i, to_client.len() - at);
@@ -287,14 +293,15 @@ fn server_flow(
     to_client: &mut [u8],
     written: Written,
 ) -> RunPart
-    requires { ⌜ control .server ≡ at Place.Flowing 0 ⌝ }
-    requires { ⌜ Quiet control kinds ⌝ }
-    requires { ⌜ (i ≤ length (now octets)) × (written .client ≤ length (now «to_client»)) ⌝ }
+    requires place { ⌜ control .server ≡ at Place.Flowing 0 ⌝ }
+    requires quiet { ⌜ Quiet control kinds ⌝ }
+    requires within { ⌜ (i ≤ length (now octets)) × (written .client ≤ length (now «to_client»)) ⌝ }
     ensures { λ r.
         let l = now (octets .entry) in
         let out = now («to_client» .entry) in
         let after = now («to_client» .exit) in
-        ⌜ ((line : List ℕ) → ServerRan kinds l i control line out written (r .control) line after (r .written) (r .taken)) ⌝ }
+        ⌜ ((line : List ℕ)
+        → ServerRan kinds l i control line out written (r .control) line after (r .written) (r .taken)) ⌝ }
 {
     let at = written.client;
     let j = no_lf_end(octets, i, to_client.len() - at);
@@ -318,10 +325,10 @@ fn server_hold(
     reply: &mut [u8],
     written: Written,
 ) -> RunPart
-    requires { ⌜ (control .server .place ≡ Place.Holding) × (control .server .held ≤ mostHeld) ⌝ }
-    requires { ⌜ length (now reply) ≡ mostHeld ⌝ }
-    requires { ⌜ Quiet control kinds ⌝ }
-    requires { ⌜ i ≤ length (now octets) ⌝ }
+    requires place { ⌜ (control .server .place ≡ Place.Holding) × (control .server .held ≤ mostHeld) ⌝ }
+    requires lengths { ⌜ length (now reply) ≡ mostHeld ⌝ }
+    requires quiet { ⌜ Quiet control kinds ⌝ }
+    requires within { ⌜ i ≤ length (now octets) ⌝ }
     ensures { λ r.
         let l = now (octets .entry) in
         let line = now (reply .entry) in
@@ -353,14 +360,15 @@ fn server_run(
     to_client: &mut [u8],
     written: Written,
 ) -> RunPart
-    requires { ⌜ (control .server .held ≤ mostHeld) × (length (now reply) ≡ mostHeld) ⌝ }
-    requires { ⌜ (i ≤ length (now octets)) × (written .client ≤ length (now «to_client»)) ⌝ }
+    requires lengths { ⌜ (control .server .held ≤ mostHeld) × (length (now reply) ≡ mostHeld) ⌝ }
+    requires within { ⌜ (i ≤ length (now octets)) × (written .client ≤ length (now «to_client»)) ⌝ }
     ensures { λ r.
         let l = now (octets .entry) in
         let line = now (reply .entry) in
         let out = now («to_client» .entry) in
         let after = now (reply .exit) in
-        ⌜ ServerRan kinds l i control line out written (r .control) after (now («to_client» .exit)) (r .written) (r .taken) ⌝ }
+        ⌜ ServerRan kinds l i control line out written
+        (r .control) after (now («to_client» .exit)) (r .written) (r .taken) ⌝ }
 {
     if !is_settled(control, kinds) {
         return RunPart {
@@ -405,11 +413,13 @@ pub fn any_run(
     to_client: &mut [u8],
     written: Written,
 ) -> RunPart
-    requires { ⌜ Bounded control written (now «to_server») (now «to_client») ⌝ }
-    requires { ⌜ (i ≤ length (now octets)) × (length (now lines) ≡ linesSize) ⌝ }
+    requires bounds { ⌜ Bounded control written (now «to_server») (now «to_client») ⌝ }
+    requires within { ⌜ (i ≤ length (now octets)) × (length (now lines) ≡ linesSize) ⌝ }
     ensures { λ r.
-        let k = coreIn control (now (lines .entry)) kinds (now («to_server» .entry)) (now («to_client» .entry)) written in
-        let m = coreIn (r .control) (now (lines .exit)) kinds (now («to_server» .exit)) (now («to_client» .exit)) (r .written) in
+        let k = coreIn control (now (lines .entry)) kinds (now («to_server» .entry)) (now («to_client» .entry))
+        written in
+        let m = coreIn (r .control) (now (lines .exit)) kinds (now («to_server» .exit)) (now («to_client» .exit))
+        (r .written) in
         ⌜ ((fixed : Fixed) → Ran fixed (sideIf «from_client») (now (octets .entry)) k i m (r .taken)) ⌝ }
 {
     if queue_full(from_client, control) {

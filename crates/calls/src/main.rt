@@ -1,6 +1,9 @@
-// Runs the scripts of its standard input, each preceded by its length in four octets, high first, and writes the results of each, preceded by theirs.
-// A script is a setup of 21 octets and then calls: kind (0 arrival, 1 end), direction, server room, client room and length in two octets each, and that many octets.
-// A call's result is its answer, the octets taken, written to the server and written to the client in four octets each, those written, and the offsets.
+// Runs the scripts of its standard input, each preceded by its length in four octets, high first, and writes the
+// results of each, preceded by theirs.
+// A script is a setup of 21 octets and then calls: kind (0 arrival, 1 end), direction, server room, client room and
+// length in two octets each, and that many octets.
+// A call's result is its answer, the octets taken, written to the server and written to the client in four octets
+// each, those written, and the offsets.
 ghost use mathlib.Core.Path.{_≡_};
 ghost use Prim.Native.Nat.{_≤_};
 ghost use lib.ListN.{length};
@@ -107,8 +110,8 @@ fn call_end(script: &[u8], at: usize) -> usize
 
 // An arrival or an end, with as much of each buffer as the call has room for.
 fn run_call(session: Session, call: &[u8], to_server: &mut [u8], to_client: &mut [u8]) -> Called
-    requires { ⌜ length (now «to_server») ≡ 65536 ⌝ }
-    requires { ⌜ length (now «to_client») ≡ 65536 ⌝ }
+    requires server { ⌜ length (now «to_server») ≡ 65536 ⌝ }
+    requires client { ⌜ length (now «to_client») ≡ 65536 ⌝ }
 {
     let direction = octet(call, 1);
     let server_room = pair(call, 2) as usize;

@@ -6,7 +6,8 @@ ghost use lib.Dec.{eqb};
 ghost use lib.ListN.{length};
 ghost use Rattle.rules.specs.Octets.{choose, every, digit, value};
 ghost use Rattle.rules.specs.Lines.{word as wordOf, startsAuth};
-ghost use Rattle.rules.specs.Commands.{commandWord, epsvCommand, epsvArgument, eprtCommand, eprtArgument, algsCommand, algsArgument, command as commandOf};
+ghost use Rattle.rules.specs.Commands.{commandWord, epsvCommand, epsvArgument, eprtCommand, eprtArgument, algsCommand};
+ghost use Rattle.rules.specs.Commands.{algsArgument, command as commandOf};
 ghost use Rattle.commands.specs.Plain.{isPlain};
 use rules::AlgsArgument;
 use rules::Command;
@@ -82,7 +83,8 @@ pub fn epsv_argument(argument: &[u8]) -> EpsvArgument
 // What a protocol number of any length asks for: 2 is IPv6.
 fn protocol(digits: &[u8]) -> EpsvArgument
     requires { ⌜ (0 < length (now digits)) × (every digit (now digits) ≡ true) ⌝ }
-    ensures { λ r. ⌜ r ≡ choose (eqb (value (now (digits .entry))) 2) EpsvArgument.Passive EpsvArgument.OtherProtocol ⌝ }
+    ensures { λ r.
+        ⌜ r ≡ choose (eqb (value (now (digits .entry))) 2) EpsvArgument.Passive EpsvArgument.OtherProtocol ⌝ }
 {
     match octets::read_number(digits, digits.len(), 2, 2) {
         octets::Number::Value(_) => EpsvArgument::Passive,

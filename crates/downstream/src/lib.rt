@@ -1,10 +1,13 @@
-// What one octet of the server does on the server's side: what it gives, where its direction stands then, and how many owed kinds it removes.
+// What one octet of the server does on the server's side: what it gives, where its direction stands then, and how
+// many owed kinds it removes.
 ghost use mathlib.Core.Path.{_≡_};
 ghost use lib.Dec.{eqb};
 ghost use Rattle.rules.specs.Octets.{lf, choose};
 ghost use Rattle.rules.specs.Replies.{passiveReply, leavesUnfinished};
 ghost use Rattle.places.specs.Places.{at as directionAt};
-ghost use Rattle.downstream.specs.Downstream.{kindRemoved, headRemoved, lineRemoves, passiveEffect, kindEffect, headEffect, lineGives, wholeLine, flowingLine, replyOctet, replyEffect, serverEffect, serverEffectOf};
+ghost use Rattle.downstream.specs.Downstream.{kindRemoved, headRemoved, lineRemoves, passiveEffect, kindEffect};
+ghost use Rattle.downstream.specs.Downstream.{headEffect, lineGives, wholeLine, flowingLine, replyOctet};
+ghost use Rattle.downstream.specs.Downstream.{replyEffect, serverEffect, serverEffectOf};
 use gives::Gives;
 use places::Direction;
 use places::LF;
@@ -179,7 +182,9 @@ fn hold_reply(unfinished: bool, first: Owes, held: usize, line: &[u8], x: u8) ->
 
 // An octet of a server line that flows.
 fn flow_reply(unfinished: bool, first: Owes, line: &[u8], x: u8) -> ServerEffect
-    ensures { λ r. ⌜ r ≡ choose (eqb x lf) (flowingLine first (now (line .entry))) (serverEffectOf Gives.Octet (directionAt Place.Flowing 0) 0 unfinished) ⌝ }
+    ensures { λ r.
+        ⌜ r ≡ choose (eqb x lf) (flowingLine first (now (line .entry)))
+        (serverEffectOf Gives.Octet (directionAt Place.Flowing 0) 0 unfinished) ⌝ }
 {
     if x == LF {
         return flowing_line(first, line);

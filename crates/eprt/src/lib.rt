@@ -25,7 +25,8 @@ pub fn same_address(a: [u8; 16], b: [u8; 16]) -> bool
 
 // The port of three fields that are 2, the client's own address and a port. Whatever else a field says leaves at once.
 fn fields_argument(protocol: &[u8], address: &[u8], port: &[u8], client: [u8; 16]) -> EprtArgument
-    ensures { λ r. ⌜ r ≡ fieldsArgument client (some (now (protocol .entry), now (address .entry), now (port .entry))) ⌝ }
+    ensures { λ r.
+        ⌜ r ≡ fieldsArgument client (some (now (protocol .entry), now (address .entry), now (port .entry))) ⌝ }
 {
     if protocol.len() != 1 {
         return EprtArgument::Other;
@@ -47,7 +48,8 @@ fn fields_argument(protocol: &[u8], address: &[u8], port: &[u8], client: [u8; 16
     EprtArgument::Port(value as u16)
 }
 
-// The port of an argument that names the client's own address: three fields between four delimiters, and nothing after the last.
+// The port of an argument that names the client's own address: three fields between four delimiters, and nothing
+// after the last.
 pub fn eprt_argument(argument: &[u8], client: [u8; 16]) -> EprtArgument
     ensures { λ r. ⌜ r ≡ eprtArgument client (now (argument .entry)) ⌝ }
 {

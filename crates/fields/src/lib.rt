@@ -55,8 +55,8 @@ fn shown_length(x: u8) -> usize
 
 // An octet as itself, or as a backslash and two hex digits.
 fn put_shown(out: &mut [u8], at: usize, x: u8) -> usize
-    ensures { λ r. ⌜ r ≡ positionAfter (now (out .entry)) at (shown x) ⌝ }
-    ensures { λ r. ⌜ now (out .exit) ≡ putAt (now (out .entry)) at (shown x) ⌝ }
+    ensures next { λ r. ⌜ r ≡ positionAfter (now (out .entry)) at (shown x) ⌝ }
+    ensures buffer { λ r. ⌜ now (out .exit) ≡ putAt (now (out .entry)) at (shown x) ⌝ }
 {
     if stands_as_itself(x) {
         return put(out, at, &[x]);
@@ -89,8 +89,8 @@ fn room_after(room: usize, octets: &[u8]) -> Room
 
 // All of a field from `at` on, or nothing; the next position.
 pub fn put_field(out: &mut [u8], at: usize, octets: &[u8]) -> usize
-    ensures { λ r. ⌜ r ≡ positionAfter (now (out .entry)) at (field (now (octets .entry))) ⌝ }
-    ensures { λ r. ⌜ now (out .exit) ≡ putAt (now (out .entry)) at (field (now (octets .entry))) ⌝ }
+    ensures next { λ r. ⌜ r ≡ positionAfter (now (out .entry)) at (field (now (octets .entry))) ⌝ }
+    ensures buffer { λ r. ⌜ now (out .exit) ≡ putAt (now (out .entry)) at (field (now (octets .entry))) ⌝ }
 {
     if octets.len() == 0 {
         return put(out, at, b"-");
@@ -121,7 +121,8 @@ fn put_number(out: &mut [u8], at: usize, n: u16, after: &[u8]) -> usize
 
 // A field and the octets after it, where both have room.
 fn put_part(out: &mut [u8], at: usize, octets: &[u8], after: &[u8]) -> usize
-    ensures { λ r. ⌜ PutInRoom (now (out .entry)) at (field (now (octets .entry)) ++ now (after .entry)) r (now (out .exit)) ⌝ }
+    ensures { λ r.
+        ⌜ PutInRoom (now (out .entry)) at (field (now (octets .entry)) ++ now (after .entry)) r (now (out .exit)) ⌝ }
 {
     let next = put_field(out, at, octets);
     put(out, next, after)
@@ -129,8 +130,8 @@ fn put_part(out: &mut [u8], at: usize, octets: &[u8], after: &[u8]) -> usize
 
 // The report's first line, or nothing where it does not fit; the next position.
 pub fn put_header(out: &mut [u8], at: usize, count: u16) -> usize
-    ensures { λ r. ⌜ r ≡ positionAfter (now (out .entry)) at (headerLine count) ⌝ }
-    ensures { λ r. ⌜ now (out .exit) ≡ putAt (now (out .entry)) at (headerLine count) ⌝ }
+    ensures next { λ r. ⌜ r ≡ positionAfter (now (out .entry)) at (headerLine count) ⌝ }
+    ensures buffer { λ r. ⌜ now (out .exit) ≡ putAt (now (out .entry)) at (headerLine count) ⌝ }
 {
     if out.len() < at {
         return at;
@@ -153,7 +154,9 @@ pub fn line_fits(
     to_server: &[u8],
     to_client: &[u8],
 ) -> bool
-    ensures { λ r. ⌜ r ≡ leb (at + length (entryLine n (doneOf taken number (now («to_server» .entry)) (now («to_client» .entry))))) size ⌝ }
+    ensures { λ r.
+        let line = entryLine n (doneOf taken number (now («to_server» .entry)) (now («to_client» .entry))) in
+        ⌜ r ≡ leb (at + length line) size ⌝ }
 {
     if size < at {
         return false;
@@ -184,8 +187,12 @@ pub fn put_entry_line(
     to_server: &[u8],
     to_client: &[u8],
 ) -> usize
-    ensures { λ r. ⌜ r ≡ positionAfter (now (out .entry)) at (entryLine n (doneOf taken number (now («to_server» .entry)) (now («to_client» .entry)))) ⌝ }
-    ensures { λ r. ⌜ now (out .exit) ≡ putAt (now (out .entry)) at (entryLine n (doneOf taken number (now («to_server» .entry)) (now («to_client» .entry)))) ⌝ }
+    ensures next { λ r.
+        let line = entryLine n (doneOf taken number (now («to_server» .entry)) (now («to_client» .entry))) in
+        ⌜ r ≡ positionAfter (now (out .entry)) at line ⌝ }
+    ensures buffer { λ r.
+        let line = entryLine n (doneOf taken number (now («to_server» .entry)) (now («to_client» .entry))) in
+        ⌜ now (out .exit) ≡ putAt (now (out .entry)) at line ⌝ }
 {
     if !line_fits(out.len(), at, n, taken, number, to_server, to_client) {
         return at;

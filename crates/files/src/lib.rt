@@ -24,8 +24,8 @@ fn octet_at(file: &[u8], at: usize) -> u8
 
 // The number of the two octets at a position, high octet first.
 pub fn pair_at(file: &[u8], at: usize) -> usize
-    ensures { λ r. ⌜ r ≡ pairAt (now (file .entry)) at ⌝ }
-    ensures { λ r. ⌜ r < 65536 ⌝ }
+    ensures result { λ r. ⌜ r ≡ pairAt (now (file .entry)) at ⌝ }
+    ensures most { λ r. ⌜ r < 65536 ⌝ }
 {
     if file.len() <= at {
         return 0;

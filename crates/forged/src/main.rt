@@ -1,8 +1,10 @@
-// Hands records to arrive and end that no session leads to, in both directions. Number 4 refuses each record of the first group, and takes nothing,
-// writes nothing and leaves the record; those of the second group stand on the edge and are taken; an unknown direction comes before a bad record.
+// Hands records to arrive and end that no session leads to, in both directions. Number 4 refuses each record of the
+// first group, and takes nothing, writes nothing and leaves the record; those of the second group stand on the edge
+// and are taken; an unknown direction comes before a bad record.
 //
-// A line is the answer's number, the octets taken, those written to the server and to the client, the first and the last octet of each buffer (7 where it
-// is untouched), and of the record: the replies owed, the octets held of either direction, and the octets taken from either side.
+// A line is the answer's number, the octets taken, those written to the server and to the client, the first and the
+// last octet of each buffer (7 where it is untouched), and of the record: the replies owed, the octets held of either
+// direction, and the octets taken from either side.
 use libc::STDOUT_FILENO;
 use places::Direction;
 use places::Place;

@@ -7,7 +7,8 @@ ghost use Rattle.output.specs.Buffer.{putAt, positionAfter};
 ghost use Rattle.gives.specs.Text.{givesText};
 use rules::Fixed;
 
-// What an octet gives: nothing since it is held; nothing; itself; the held octets and itself; or a line of the gateway's.
+// What an octet gives: nothing since it is held; nothing; itself; the held octets and itself; or a line of the
+// gateway's.
 pub enum Gives {
     Held,
     Nothing,
@@ -36,8 +37,12 @@ pub fn gives_length(gives: Gives, fixed: Fixed, held: &[u8], x: u8) -> usize
 
 // The octets given are put into a buffer; where they do not fit, nothing is.
 pub fn put_gives(out: &mut [u8], at: usize, gives: Gives, fixed: Fixed, held: &[u8], x: u8) -> usize
-    ensures { λ r. ⌜ r ≡ positionAfter (now (out .entry)) at (givesText fixed (now (held .entry)) x gives) ⌝ }
-    ensures { λ r. ⌜ now (out .exit) ≡ putAt (now (out .entry)) at (givesText fixed (now (held .entry)) x gives) ⌝ }
+    ensures next { λ r.
+        let text = givesText fixed (now (held .entry)) x gives in
+        ⌜ r ≡ positionAfter (now (out .entry)) at text ⌝ }
+    ensures buffer { λ r.
+        let text = givesText fixed (now (held .entry)) x gives in
+        ⌜ now (out .exit) ≡ putAt (now (out .entry)) at text ⌝ }
 {
     let mapped = fixed.mapped;
     match gives {
@@ -53,8 +58,8 @@ pub fn put_gives(out: &mut [u8], at: usize, gives: Gives, fixed: Fixed, held: &[
 
 // One octet as a slice of its own.
 fn put_octet(out: &mut [u8], at: usize, x: u8) -> usize
-    ensures { λ r. ⌜ r ≡ positionAfter (now (out .entry)) at (x ∷ []) ⌝ }
-    ensures { λ r. ⌜ now (out .exit) ≡ putAt (now (out .entry)) at (x ∷ []) ⌝ }
+    ensures next { λ r. ⌜ r ≡ positionAfter (now (out .entry)) at (x ∷ []) ⌝ }
+    ensures buffer { λ r. ⌜ now (out .exit) ≡ putAt (now (out .entry)) at (x ∷ []) ⌝ }
 {
     output::put(out, at, &[x])
 }
@@ -68,16 +73,16 @@ pub fn passed_length(held: &[u8]) -> usize
 
 // What they give is put into a buffer, all or nothing; the next position.
 pub fn put_passed(out: &mut [u8], at: usize, held: &[u8]) -> usize
-    ensures { λ r. ⌜ r ≡ positionAfter (now (out .entry)) at (passed (now (held .entry))) ⌝ }
-    ensures { λ r. ⌜ now (out .exit) ≡ putAt (now (out .entry)) at (passed (now (held .entry))) ⌝ }
+    ensures next { λ r. ⌜ r ≡ positionAfter (now (out .entry)) at (passed (now (held .entry))) ⌝ }
+    ensures buffer { λ r. ⌜ now (out .exit) ≡ putAt (now (out .entry)) at (passed (now (held .entry))) ⌝ }
 {
     output::put(out, at, held)
 }
 
 // What a line's held octets give and one octet more behind it, all or nothing; the next position.
 pub fn put_line(out: &mut [u8], at: usize, held: &[u8], x: u8) -> usize
-    ensures { λ r. ⌜ r ≡ positionAfter (now (out .entry)) at (passed (now (held .entry)) ++ (x ∷ [])) ⌝ }
-    ensures { λ r. ⌜ now (out .exit) ≡ putAt (now (out .entry)) at (passed (now (held .entry)) ++ (x ∷ [])) ⌝ }
+    ensures next { λ r. ⌜ r ≡ positionAfter (now (out .entry)) at (passed (now (held .entry)) ++ (x ∷ [])) ⌝ }
+    ensures buffer { λ r. ⌜ now (out .exit) ≡ putAt (now (out .entry)) at (passed (now (held .entry)) ++ (x ∷ [])) ⌝ }
 {
     if out.len() < at {
         return at;

@@ -1,4 +1,5 @@
-// An arrival on the record where it lies: marks and numbers are read and written back, and the arrays are used in place.
+// An arrival on the record where it lies: marks and numbers are read and written back, and the arrays are used in
+// place.
 ghost use mathlib.Core.Path.{_≡_};
 ghost use mathlib.Core.Option.{none};
 ghost use Rattle.records.specs.Sound.{refusalOf};
@@ -23,7 +24,8 @@ pub struct Told {
     pub written: Written,
 }
 
-// Octets of a direction arrive; what they give goes into the two buffers. A call that is refused leaves the image as it was.
+// Octets of a direction arrive; what they give goes into the two buffers. A call that is refused leaves the image as
+// it was.
 pub fn arrive_at(
     image: &mut [u8],
     direction: u8,
@@ -31,13 +33,17 @@ pub fn arrive_at(
     to_server: &mut [u8],
     to_client: &mut [u8],
 ) -> Told
-    ensures { λ r.
-        let o = arrivedOn (now (image .entry)) direction (now (octets .entry)) (now («to_server» .entry)) (now («to_client» .entry)) in
+    ensures told { λ r.
+        let server = now («to_server» .entry) in
+        let client = now («to_client» .entry) in
+        let o = arrivedOn (now (image .entry)) direction (now (octets .entry)) server client in
         ⌜ Tells r (o .called) × (now (image .exit) ≡ imageAfter (now (image .entry)) (o .called)) ⌝ }
-    ensures { λ r.
-        let o = arrivedOn (now (image .entry)) direction (now (octets .entry)) (now («to_server» .entry)) (now («to_client» .entry)) in
-        ⌜ (now («to_server» .exit) ≡ serverAfter o (now («to_server» .entry)))
-        × (now («to_client» .exit) ≡ clientAfter o (now («to_client» .entry))) ⌝ }
+    ensures buffers { λ r.
+        let server = now («to_server» .entry) in
+        let client = now («to_client» .entry) in
+        let o = arrivedOn (now (image .entry)) direction (now (octets .entry)) server client in
+        ⌜ (now («to_server» .exit) ≡ serverAfter o server)
+        × (now («to_client» .exit) ≡ clientAfter o client) ⌝ }
 {
     if 2 <= direction {
         return nothing_written(Answer::UnknownDirection);
@@ -60,13 +66,17 @@ fn take_at(
     to_client: &mut [u8],
 ) -> Told
     requires { ⌜ refusalOf (sessionOf (now image)) direction ≡ none ⌝ }
-    ensures { λ r.
-        let o = arrivedOn (now (image .entry)) direction (now (octets .entry)) (now («to_server» .entry)) (now («to_client» .entry)) in
+    ensures told { λ r.
+        let server = now («to_server» .entry) in
+        let client = now («to_client» .entry) in
+        let o = arrivedOn (now (image .entry)) direction (now (octets .entry)) server client in
         ⌜ Tells r (o .called) × (now (image .exit) ≡ imageAfter (now (image .entry)) (o .called)) ⌝ }
-    ensures { λ r.
-        let o = arrivedOn (now (image .entry)) direction (now (octets .entry)) (now («to_server» .entry)) (now («to_client» .entry)) in
-        ⌜ (now («to_server» .exit) ≡ serverAfter o (now («to_server» .entry)))
-        × (now («to_client» .exit) ≡ clientAfter o (now («to_client» .entry))) ⌝ }
+    ensures buffers { λ r.
+        let server = now («to_server» .entry) in
+        let client = now («to_client» .entry) in
+        let o = arrivedOn (now (image .entry)) direction (now (octets .entry)) server client in
+        ⌜ (now («to_server» .exit) ≡ serverAfter o server)
+        × (now («to_client» .exit) ≡ clientAfter o client) ⌝ }
 {
     let from_client = direction == 0;
     let supported = image[layout::SUPPORTED] == 1;

@@ -9,7 +9,8 @@ ghost use lib.ListN.{length};
 ghost use Rattle.rules.specs.Lines.{mostHeld};
 ghost use Rattle.session.specs.Calls.{heldEnd, bufferAfter};
 ghost use Rattle.image.specs.Image.{imageOf, controlIn, fieldsIn, isImage};
-ghost use Rattle.image.specs.Lent.{endedOn, endedWith, placeAt, heldAt, lineAt, writtenAt, imageAfter, serverAfter, clientAfter, Tells};
+ghost use Rattle.image.specs.Lent.{endedOn, endedWith, placeAt, heldAt, lineAt, writtenAt, imageAfter};
+ghost use Rattle.image.specs.Lent.{serverAfter, clientAfter, Tells};
 use crate::Told;
 use crate::arrival::nothing_written;
 use crate::is_image;
@@ -23,14 +24,14 @@ use records::layout;
 use rules::Answer;
 use session::written_from;
 
-// A direction ends: its held octets go into its buffer. A call that is refused, or has no room for them, leaves the image
-// as it was. It asks what refuses it as an arrival does, each by itself, so that the compiler joins an arrival's tests with
-// what it reads.
+// A direction ends: its held octets go into its buffer. A call that is refused, or has no room for them, leaves the
+// image as it was. It asks what refuses it as an arrival does, each by itself, so that the compiler joins an
+// arrival's tests with what it reads.
 pub fn end_at(image: &mut [u8], direction: u8, to_server: &mut [u8], to_client: &mut [u8]) -> Told
-    ensures { λ r.
+    ensures told { λ r.
         let o = endedOn (now (image .entry)) direction (now («to_server» .entry)) (now («to_client» .entry)) in
         ⌜ Tells r (o .called) × (now (image .exit) ≡ imageAfter (now (image .entry)) (o .called)) ⌝ }
-    ensures { λ r.
+    ensures buffers { λ r.
         let o = endedOn (now (image .entry)) direction (now («to_server» .entry)) (now («to_client» .entry)) in
         ⌜ (now («to_server» .exit) ≡ serverAfter o (now («to_server» .entry)))
         × (now («to_client» .exit) ≡ clientAfter o (now («to_client» .entry))) ⌝ }
@@ -79,7 +80,8 @@ fn end_held(image: &mut [u8], from_client: bool, out: &mut [u8]) -> Told
 fn put_end(image: &mut [u8], from_client: bool, n: usize)
     requires { ⌜ (isImage (now image) ≡ true) × (n ≤ mostHeld) ⌝ }
     ensures { λ _.
-        ⌜ now (image .exit) ≡ putAt (now (image .entry)) 0 (imageOf (endedWith (fieldsIn (now (image .entry))) (sideIf «from_client») n)) ⌝ }
+        let before = now (image .entry) in
+        ⌜ now (image .exit) ≡ putAt before 0 (imageOf (endedWith (fieldsIn before) (sideIf «from_client») n)) ⌝ }
 {
     let place = place_at(from_client);
     let count = held_at(from_client);

@@ -8,7 +8,9 @@ ghost use Rattle.records.specs.Layout.{numberWidth, epsvAt, imageSize};
 ghost use Rattle.output.specs.Buffer.{putAt, positionAfter, PutInRoom};
 ghost use Rattle.records.specs.Sound.{refusalOf, refusalBy, Counted};
 ghost use Rattle.session.specs.Calls.{deadSession};
-ghost use Rattle.image.specs.Image.{markOf as bitOf, placeNumber, fourOctets, capped as cappedAt, marksIn, marksFrom, numbersBy, numbersFrom, arraysOf, imageOf, placeOf, countAt, countsAt, controlIn, fieldsIn, atMost, isImage, sessionOf};
+ghost use Rattle.image.specs.Image.{markOf as bitOf, placeNumber, fourOctets, capped as cappedAt, marksIn};
+ghost use Rattle.image.specs.Image.{marksFrom, numbersBy, numbersFrom, arraysOf, imageOf, placeOf, countAt};
+ghost use Rattle.image.specs.Image.{countsAt, controlIn, fieldsIn, atMost, isImage, sessionOf};
 use output::four;
 use output::put;
 use output::sixteen;
@@ -141,8 +143,8 @@ fn uncapped(n: usize) -> u32
 
 // A number in four octets, low octet first.
 fn put_number(out: &mut [u8], at: usize, n: u32) -> usize
-    ensures { λ r. ⌜ r ≡ positionAfter (now (out .entry)) at (fourOctets n) ⌝ }
-    ensures { λ r. ⌜ now (out .exit) ≡ putAt (now (out .entry)) at (fourOctets n) ⌝ }
+    ensures next { λ r. ⌜ r ≡ positionAfter (now (out .entry)) at (fourOctets n) ⌝ }
+    ensures buffer { λ r. ⌜ now (out .exit) ≡ putAt (now (out .entry)) at (fourOctets n) ⌝ }
 {
     let octets = [
         (n % 256) as u8,
@@ -328,8 +330,8 @@ fn number_at(image: &[u8], at: usize) -> u32
 }
 
 fn wide(octet: u8) -> u32
-    ensures { λ r. ⌜ r ≡ octet ⌝ }
-    ensures { λ r. ⌜ r ≤ 255 ⌝ }
+    ensures result { λ r. ⌜ r ≡ octet ⌝ }
+    ensures most { λ r. ⌜ r ≤ 255 ⌝ }
 {
     octet as u32
 }

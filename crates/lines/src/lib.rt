@@ -48,7 +48,9 @@ fn spaces_end(s: &[u8], from: usize) -> usize
 fn text_end(s: &[u8], start: usize) -> usize
     requires { ⌜ start ≤ length (now s) ⌝ }
     ensures within { λ r. ⌜ (start ≤ r) × (r ≤ length (now (s .entry))) ⌝ }
-    ensures text { λ r. ⌜ take (r - start) (drop start (now (s .entry))) ≡ trimEnd (is space) (drop start (now (s .entry))) ⌝ }
+    ensures text { λ r.
+        let rest = drop start (now (s .entry)) in
+        ⌜ take (r - start) rest ≡ trimEnd (is space) rest ⌝ }
 {
     let mut e = s.len();
     while e > start {

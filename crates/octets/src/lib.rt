@@ -3,7 +3,8 @@ ghost use mathlib.Core.Path.{_≡_};
 ghost use mathlib.Core.Bool.{true};
 ghost use Prim.Native.Nat.{_+_};
 ghost use lib.ListN.{drop};
-ghost use Rattle.rules.specs.Octets.{run, isNot, every, digit, capital as capitalOf, alike as alikeOf, value as valueOf, number as numberOf};
+ghost use Rattle.rules.specs.Octets.{run, isNot, every, digit, capital as capitalOf, alike as alikeOf};
+ghost use Rattle.rules.specs.Octets.{value as valueOf, number as numberOf};
 ghost use Rattle.octets.specs.Numbers.{between, numberRead};
 
 // Where the first octet x stands at or after `from`, or the end of s.

@@ -21,8 +21,8 @@ pub fn has_room(length: usize, at: usize, n: usize) -> bool
 
 // All of `src` from `at` on, or nothing; the next position.
 pub fn put(out: &mut [u8], at: usize, src: &[u8]) -> usize
-    ensures { λ r. ⌜ r ≡ positionAfter (now (out .entry)) at (now (src .entry)) ⌝ }
-    ensures { λ r. ⌜ now (out .exit) ≡ putAt (now (out .entry)) at (now (src .entry)) ⌝ }
+    ensures next { λ r. ⌜ r ≡ positionAfter (now (out .entry)) at (now (src .entry)) ⌝ }
+    ensures buffer { λ r. ⌜ now (out .exit) ≡ putAt (now (out .entry)) at (now (src .entry)) ⌝ }
 {
     if !has_room(out.len(), at, src.len()) {
         return at;
@@ -48,7 +48,8 @@ fn block_length(left: usize) -> usize
     if left < BLOCK { left } else { BLOCK }
 }
 
-// Through an array of its own, which lies in neither slice: the compiler then makes one move of the two copies, and no array.
+// Through an array of its own, which lies in neither slice: the compiler then makes one move of the two copies, and
+// no array.
 fn put_block(out: &mut [u8], at: usize, src: &[u8])
     requires { ⌜ (length (now src) ≤ 1024) × (at + length (now src) ≤ length (now out)) ⌝ }
     ensures { λ _. ⌜ now (out .exit) ≡ putAt (now (out .entry)) at (now (src .entry)) ⌝ }
@@ -88,8 +89,8 @@ pub fn four(octets: &[u8]) -> [u8; 4]
 }
 
 pub fn decimal_length(n: u16) -> usize
-    ensures { λ r. ⌜ r ≡ length (decimal n) ⌝ }
-    ensures { λ r. ⌜ r ≤ 5 ⌝ }
+    ensures result { λ r. ⌜ r ≡ length (decimal n) ⌝ }
+    ensures most { λ r. ⌜ r ≤ 5 ⌝ }
 {
     if n < 10 {
         return 1;
@@ -108,8 +109,8 @@ pub fn decimal_length(n: u16) -> usize
 
 // The five last digits of the number, without the zeros in front.
 pub fn put_decimal(out: &mut [u8], at: usize, n: u16) -> usize
-    ensures { λ r. ⌜ r ≡ positionAfter (now (out .entry)) at (decimal n) ⌝ }
-    ensures { λ r. ⌜ now (out .exit) ≡ putAt (now (out .entry)) at (decimal n) ⌝ }
+    ensures next { λ r. ⌜ r ≡ positionAfter (now (out .entry)) at (decimal n) ⌝ }
+    ensures buffer { λ r. ⌜ now (out .exit) ≡ putAt (now (out .entry)) at (decimal n) ⌝ }
 {
     let tens = n / 10;
     let hundreds = tens / 10;

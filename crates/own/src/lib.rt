@@ -18,8 +18,8 @@ pub fn answer_length(a: OwnAnswer) -> usize
 }
 
 pub fn put_answer(out: &mut [u8], at: usize, a: OwnAnswer) -> usize
-    ensures { λ r. ⌜ r ≡ positionAfter (now (out .entry)) at (answerLine a) ⌝ }
-    ensures { λ r. ⌜ now (out .exit) ≡ putAt (now (out .entry)) at (answerLine a) ⌝ }
+    ensures next { λ r. ⌜ r ≡ positionAfter (now (out .entry)) at (answerLine a) ⌝ }
+    ensures buffer { λ r. ⌜ now (out .exit) ≡ putAt (now (out .entry)) at (answerLine a) ⌝ }
 {
     match a {
         OwnAnswer::ProtocolNotSupported => put(out, at, b"522 Network protocol not supported\r\n"),
@@ -34,8 +34,8 @@ pub fn put_answer(out: &mut [u8], at: usize, a: OwnAnswer) -> usize
 
 // The 216 line, by the switches that are on.
 fn put_state(out: &mut [u8], at: usize, on: Switches) -> usize
-    ensures { λ r. ⌜ r ≡ positionAfter (now (out .entry)) at (stateLine (on .epsv) (on .eprt)) ⌝ }
-    ensures { λ r. ⌜ now (out .exit) ≡ putAt (now (out .entry)) at (stateLine (on .epsv) (on .eprt)) ⌝ }
+    ensures next { λ r. ⌜ r ≡ positionAfter (now (out .entry)) at (stateLine (on .epsv) (on .eprt)) ⌝ }
+    ensures buffer { λ r. ⌜ now (out .exit) ≡ putAt (now (out .entry)) at (stateLine (on .epsv) (on .eprt)) ⌝ }
 {
     if on.epsv {
         if on.eprt {

@@ -36,7 +36,7 @@ pub fn first_octets(line: &[u8], n: usize) -> &[u8]
 
 // Whether another octet that is no LF is held too, as its line may still be judged whole. `fits` lets callers count it.
 pub fn is_held(held: usize) -> bool
-    ensures test { λ r. ⌜ r ≡ ltb (held + 1) judged ⌝ }
+    ensures result { λ r. ⌜ r ≡ ltb (held + 1) judged ⌝ }
     ensures fits { λ r. ⌜ (r ≡ true → held + 1 < 65536) ⌝ }
 {
     held < HELD

@@ -1,4 +1,5 @@
-// The session's functions once more, with the promises that demand 3 is proved from as their contracts: that the session keeps them is proved, not read.
+// The session's functions once more, with the promises that demand 3 is proved from as their contracts: that the
+// session keeps them is proved, not read.
 ghost use mathlib.Core.Path.{_≡_};
 ghost use Prim.Native.Nat.{_<_};
 ghost use lib.ListN.{length};
@@ -16,8 +17,8 @@ use session::Prepared;
 
 // A setup that answers 0 returns a fresh session.
 pub fn promised_setup(setup: Setup) -> Prepared
-    ensures { λ r. ⌜ r ≡ prepared setup ⌝ }
-    ensures { λ r. ⌜ (r .answer ≡ Answer.Done → gateway .Fresh setup (r .session)) ⌝ }
+    ensures result { λ r. ⌜ r ≡ prepared setup ⌝ }
+    ensures fresh { λ r. ⌜ (r .answer ≡ Answer.Done → gateway .Fresh setup (r .session)) ⌝ }
 {
     session::setup(setup)
 }
@@ -30,7 +31,9 @@ pub fn promised_arrival(
     to_server: &mut [u8],
     to_client: &mut [u8],
 ) -> Called
-    ensures { λ r. ⌜ gateway .Promise session (arrival direction (now (octets .entry)) (now («to_server» .entry)) (now («to_client» .entry))) (returned r (now («to_server» .exit)) (now («to_client» .exit))) ⌝ }
+    ensures promise { λ r.
+        let c = arrival direction (now (octets .entry)) (now («to_server» .entry)) (now («to_client» .entry)) in
+        ⌜ gateway .Promise session c (returned r (now («to_server» .exit)) (now («to_client» .exit))) ⌝ }
     ensures progress { λ r.
         let serverRoom = length (now («to_server» .entry)) in
         let clientRoom = length (now («to_client» .entry)) in
@@ -46,15 +49,17 @@ pub fn promised_end(
     to_server: &mut [u8],
     to_client: &mut [u8],
 ) -> Called
-    ensures { λ r. ⌜ gateway .Promise session (ending direction (now («to_server» .entry)) (now («to_client» .entry))) (returned r (now («to_server» .exit)) (now («to_client» .exit))) ⌝ }
+    ensures { λ r.
+        let c = ending direction (now («to_server» .entry)) (now («to_client» .entry)) in
+        ⌜ gateway .Promise session c (returned r (now («to_server» .exit)) (now («to_client» .exit))) ⌝ }
 {
     session::end(session, direction, to_server, to_client)
 }
 
 // The offset of a direction that there is, is the gateway's.
 pub fn promised_offset(session: Session, direction: u8) -> DirectionOffset
-    ensures { λ r. ⌜ r ≡ offsetIn session direction ⌝ }
-    ensures { λ r. ⌜ (direction < 2 → r ≡ DirectionOffset.Is (gateway .offset session (sideOf direction))) ⌝ }
+    ensures result { λ r. ⌜ r ≡ offsetIn session direction ⌝ }
+    ensures offset { λ r. ⌜ (direction < 2 → r ≡ DirectionOffset.Is (gateway .offset session (sideOf direction))) ⌝ }
 {
     session::offset(session, direction)
 }

@@ -6,7 +6,8 @@ ghost use lib.ListN.{length, drop};
 ghost use Rattle.rules.specs.Replies.{headAnswers, authAtHead};
 ghost use Rattle.rules.specs.Answers.{mostAnswers};
 ghost use Rattle.output.specs.Buffer.{putAt, positionAfter};
-ghost use Rattle.queue.specs.Kinds.{answerCode, codeOf, stateKind, kindOf, queueOf, headOf, answersAtHead, pushed, shiftedIn, isStill};
+ghost use Rattle.queue.specs.Kinds.{answerCode, codeOf, stateKind, kindOf, queueOf, headOf, answersAtHead};
+ghost use Rattle.queue.specs.Kinds.{pushed, shiftedIn, isStill};
 ghost use Rattle.queue.specs.Heads.{answerFirst, planOf};
 use own::answer_length;
 use own::put_answer;
@@ -128,8 +129,10 @@ fn answer_at(kinds: Kinds, i: usize, owed: usize) -> NextAnswer
 
 // The own answers at the head of what is owed from number `from` on.
 fn due(kinds: Kinds, from: usize, owed: usize) -> AnswersDue
-    ensures { λ r. ⌜ (r .until ≡ from + answersAtHead (drop from (queueOf kinds owed))) × (r .length ≡ length (headAnswers (drop from (queueOf kinds owed)))) ⌝ }
-    ensures { λ r. ⌜ r .length ≤ mostAnswers ⌝ }
+    ensures result { λ r.
+        let rest = drop from (queueOf kinds owed) in
+        ⌜ (r .until ≡ from + answersAtHead rest) × (r .length ≡ length (headAnswers rest)) ⌝ }
+    ensures most { λ r. ⌜ r .length ≤ mostAnswers ⌝ }
 {
     let mut until = from;
     let mut octets = 0;
@@ -152,8 +155,12 @@ fn due(kinds: Kinds, from: usize, owed: usize) -> AnswersDue
 
 // Those answers from `at` on, or nothing where they do not all fit; the next position.
 pub fn put_answers(out: &mut [u8], at: usize, kinds: Kinds, from: usize, owed: usize) -> usize
-    ensures { λ r. ⌜ r ≡ positionAfter (now (out .entry)) at (headAnswers (drop from (queueOf kinds owed))) ⌝ }
-    ensures { λ r. ⌜ now (out .exit) ≡ putAt (now (out .entry)) at (headAnswers (drop from (queueOf kinds owed))) ⌝ }
+    ensures next { λ r.
+        let text = headAnswers (drop from (queueOf kinds owed)) in
+        ⌜ r ≡ positionAfter (now (out .entry)) at text ⌝ }
+    ensures buffer { λ r.
+        let text = headAnswers (drop from (queueOf kinds owed)) in
+        ⌜ now (out .exit) ≡ putAt (now (out .entry)) at text ⌝ }
 {
     if out.len() < at {
         return at;
@@ -209,8 +216,8 @@ fn auth_at(kinds: Kinds, from: usize, owed: usize) -> bool
     }
 }
 
-// Behind the first `from` kinds none is owed, or the first one's number is that of a plain reply or a translated EPSV: no
-// own answer and not AUTH.
+// Behind the first `from` kinds none is owed, or the first one's number is that of a plain reply or a translated
+// EPSV: no own answer and not AUTH.
 pub fn is_still(kinds: &[u8], from: usize, owed: usize) -> bool
     ensures { λ r. ⌜ r ≡ isStill (now (kinds .entry)) from owed ⌝ }
 {
@@ -225,8 +232,8 @@ pub fn is_still(kinds: &[u8], from: usize, owed: usize) -> bool
 
 // What own answers and the AUTH step will do once the first `from` kinds are removed, where `blocked` answers wait.
 pub fn planned(kinds: Kinds, from: usize, owed: usize, blocked: bool) -> Plan
-    ensures { λ r. ⌜ r ≡ planOf blocked (queueOf kinds owed) from ⌝ }
-    ensures { λ r. ⌜ r .answers ≤ mostAnswers ⌝ }
+    ensures result { λ r. ⌜ r ≡ planOf blocked (queueOf kinds owed) from ⌝ }
+    ensures most { λ r. ⌜ r .answers ≤ mostAnswers ⌝ }
 {
     if is_still(&kinds, from, owed) {
         return Plan {

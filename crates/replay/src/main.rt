@@ -87,8 +87,8 @@ fn replay_file(file: &[u8]) {
 
 // Room for the longest part of a report. The `ensures` gives only the length.
 fn part_buffer() -> [u8; 98324]
-    ensures { λ r. ⌜ 98324 ≡ length r ⌝ }
-    ensures { λ r. ⌜ mostPart ≡ length r ⌝ }
+    ensures size { λ r. ⌜ 98324 ≡ length r ⌝ }
+    ensures most { λ r. ⌜ mostPart ≡ length r ⌝ }
 {
     [0; 98324]
 }
@@ -98,7 +98,8 @@ fn left_of(part: Part) -> u16 {
     replay.left
 }
 
-// Whether the part could be written. Each has room, and there is one while entries are left (`room-enough`, `goes-on` of the crate report).
+// Whether the part could be written. Each has room, and there is one while entries are left (`room-enough`, `goes-on`
+// of the crate report).
 fn write_part(part: Part, out: &[u8]) -> bool {
     let progress = part.progress;
     let PartState::Written = progress else {

@@ -1,4 +1,5 @@
-// The report of a session file, written part by part into a lent buffer: the header or the refusal, then the line of each entry.
+// The report of a session file, written part by part into a lent buffer: the header or the refusal, then the line of
+// each entry.
 use fields::line_fits;
 use fields::put_entry_line;
 use fields::put_header;
@@ -23,10 +24,12 @@ ghost use Rattle.output.specs.Buffer.{putAt, positionAfter};
 ghost use Rattle.session.specs.Calls.{deadSession};
 ghost use Rattle.fields.specs.Report.{outRoom, setUp, runEntry};
 ghost use Rattle.fields.specs.Parts.{doneOf};
-ghost use Rattle.report.specs.Replays.{firstText, firstPart, isAccepted, isDue, entryText, nextText, leftAfter, nextPart, noReplay as noneLeft};
+ghost use Rattle.report.specs.Replays.{firstText, firstPart, isAccepted, isDue, entryText, nextText, leftAfter};
+ghost use Rattle.report.specs.Replays.{nextPart, noReplay as noneLeft};
 ghost use Rattle.report.specs.Ran.{ranBy, ranOf};
 
-// Where a replay stands: the record, the number of the next entry and where its body begins, and how many entries are left.
+// Where a replay stands: the record, the number of the next entry and where its body begins, and how many entries are
+// left.
 pub struct Replay {
     pub session: Session,
     pub number: u16,
@@ -58,8 +61,8 @@ struct EntryRan {
 
 // The report's first line: the header, or the refusal, after which no entry is left.
 pub fn start(file: &[u8], out: &mut [u8]) -> Part
-    ensures { λ r. ⌜ r ≡ firstPart (now (file .entry)) (length (now (out .entry))) ⌝ }
-    ensures { λ r. ⌜ now (out .exit) ≡ putAt (now (out .entry)) 0 (firstText (now (file .entry))) ⌝ }
+    ensures result { λ r. ⌜ r ≡ firstPart (now (file .entry)) (length (now (out .entry))) ⌝ }
+    ensures buffer { λ r. ⌜ now (out .exit) ≡ putAt (now (out .entry)) 0 (firstText (now (file .entry))) ⌝ }
 {
     let verdict = judge(file);
     match verdict {
@@ -80,8 +83,8 @@ pub fn start(file: &[u8], out: &mut [u8]) -> Part
 
 // The line of the next entry, and STOPPED where no more follow it.
 pub fn next(file: &[u8], replay: Replay, out: &mut [u8]) -> Part
-    ensures { λ r. ⌜ r ≡ nextPart (now (file .entry)) replay (length (now (out .entry))) ⌝ }
-    ensures { λ r. ⌜ now (out .exit) ≡ putAt (now (out .entry)) 0 (nextText (now (file .entry)) replay) ⌝ }
+    ensures result { λ r. ⌜ r ≡ nextPart (now (file .entry)) replay (length (now (out .entry))) ⌝ }
+    ensures buffer { λ r. ⌜ now (out .exit) ≡ putAt (now (out .entry)) 0 (nextText (now (file .entry)) replay) ⌝ }
 {
     if !is_due(file, replay) {
         return Part {
@@ -126,7 +129,10 @@ pub fn next(file: &[u8], replay: Replay, out: &mut [u8]) -> Part
 
 // A part of which so many octets were written: no text is empty, so none means that it had no room.
 fn part_of(written: usize, before: Replay, after: Replay) -> Part
-    ensures { λ r. ⌜ r ≡ choose (eqb written 0) (record { progress = PartState.NoRoom; written = 0; replay = before }) (record { progress = PartState.Written; written = written; replay = after }) ⌝ }
+    ensures { λ r.
+        ⌜ r ≡ choose (eqb written 0)
+        (record { progress = PartState.NoRoom; written = 0; replay = before })
+        (record { progress = PartState.Written; written = written; replay = after }) ⌝ }
 {
     if written == 0 {
         return Part {
@@ -219,12 +225,16 @@ fn run_entry(
     to_server: &mut [u8],
     to_client: &mut [u8],
 ) -> EntryRan
-    requires { ⌜ length (now body) ≤ 1024 ⌝ }
-    requires { ⌜ length (now «to_server») ≡ outRoom ⌝ }
-    requires { ⌜ length (now «to_client») ≡ outRoom ⌝ }
-    ensures { λ r. ⌜ r ≡ ranBy (runEntry session kind (now (body .entry))) ⌝ }
-    ensures { λ r. ⌜ take (r .written .server) (now («to_server» .exit)) ≡ runEntry session kind (now (body .entry)) .toServer ⌝ }
-    ensures { λ r. ⌜ take (r .written .client) (now («to_client» .exit)) ≡ runEntry session kind (now (body .entry)) .toClient ⌝ }
+    requires most { ⌜ length (now body) ≤ 1024 ⌝ }
+    requires server { ⌜ length (now «to_server») ≡ outRoom ⌝ }
+    requires client { ⌜ length (now «to_client») ≡ outRoom ⌝ }
+    ensures result { λ r. ⌜ r ≡ ranBy (runEntry session kind (now (body .entry))) ⌝ }
+    ensures server { λ r.
+        let o = runEntry session kind (now (body .entry)) in
+        ⌜ take (r .written .server) (now («to_server» .exit)) ≡ o .toServer ⌝ }
+    ensures client { λ r.
+        let o = runEntry session kind (now (body .entry)) in
+        ⌜ take (r .written .client) (now («to_client» .exit)) ≡ o .toClient ⌝ }
 {
     if kind >= 4 {
         return set_up(body);
@@ -269,7 +279,8 @@ fn set_up(body: &[u8]) -> EntryRan
     }
 }
 
-// An entry's line, with STOPPED after an answer other than 0: all of it from the front on, or nothing; the next position.
+// An entry's line, with STOPPED after an answer other than 0: all of it from the front on, or nothing; the next
+// position.
 fn put_entry(
     out: &mut [u8],
     number: u16,
@@ -278,8 +289,12 @@ fn put_entry(
     to_server: &[u8],
     to_client: &[u8],
 ) -> usize
-    ensures { λ r. ⌜ r ≡ positionAfter (now (out .entry)) 0 (entryText number (doneOf taken answer (now («to_server» .entry)) (now («to_client» .entry)))) ⌝ }
-    ensures { λ r. ⌜ now (out .exit) ≡ putAt (now (out .entry)) 0 (entryText number (doneOf taken answer (now («to_server» .entry)) (now («to_client» .entry)))) ⌝ }
+    ensures next { λ r.
+        let text = entryText number (doneOf taken answer (now («to_server» .entry)) (now («to_client» .entry))) in
+        ⌜ r ≡ positionAfter (now (out .entry)) 0 text ⌝ }
+    ensures buffer { λ r.
+        let text = entryText number (doneOf taken answer (now («to_server» .entry)) (now («to_client» .entry))) in
+        ⌜ now (out .exit) ≡ putAt (now (out .entry)) 0 text ⌝ }
 {
     if answer == 0 {
         return put_entry_line(out, 0, number, taken, answer, to_server, to_client);

@@ -1,4 +1,5 @@
-// The sizes of the rules, and their terms as types: the definitions in specs/ go by cases on them, and functions take and return them.
+// The sizes of the rules, and their terms as types: the definitions in specs/ go by cases on them, and functions take
+// and return them.
 ghost use mathlib.Core.Path.{_≡_};
 ghost use Rattle.rules.specs.Answers.{answerNumber};
 

@@ -6,7 +6,9 @@ ghost use Prim.Native.Nat.{ℕ};
 ghost use Rattle.rules.specs.Answers.{wrapped, client as clientSide, server as serverSide, mostOwed};
 ghost use Rattle.rules.specs.Lines.{mostHeld};
 ghost use Rattle.rules.specs.Setup.{ipv6Width, ipv4Width};
-ghost use Rattle.session.specs.Calls.{prepared, startSession, startControl, refusedSetup, preparedFrom, arrived, heldEnd, bufferAfter, writtenFrom, endCalled, refused as refusedOutcome, counted as countedBy, takenFor, sessionAfter, offset as offsetIn};
+ghost use Rattle.session.specs.Calls.{prepared, startSession, startControl, refusedSetup, preparedFrom, arrived};
+ghost use Rattle.session.specs.Calls.{heldEnd, bufferAfter, writtenFrom, endCalled, refused as refusedOutcome};
+ghost use Rattle.session.specs.Calls.{counted as countedBy, takenFor, sessionAfter, offset as offsetIn};
 ghost use Rattle.output.specs.Buffer.{putAt};
 ghost use Rattle.records.specs.Sound.{sideIf};
 ghost use Rattle.steps.specs.Steps.{heldOf};
@@ -171,9 +173,21 @@ pub fn arrive(
     to_server: &mut [u8],
     to_client: &mut [u8],
 ) -> Called
-    ensures { λ r. ⌜ r ≡ arrived session direction (now (octets .entry)) (length (now («to_server» .entry))) (length (now («to_client» .entry))) .called ⌝ }
-    ensures { λ r. ⌜ now («to_server» .exit) ≡ arrived session direction (now (octets .entry)) (length (now («to_server» .entry))) (length (now («to_client» .entry))) .toServer ++ drop (r .written .server) (now («to_server» .entry)) ⌝ }
-    ensures { λ r. ⌜ now («to_client» .exit) ≡ arrived session direction (now (octets .entry)) (length (now («to_server» .entry))) (length (now («to_client» .entry))) .toClient ++ drop (r .written .client) (now («to_client» .entry)) ⌝ }
+    ensures result { λ r.
+        let server = now («to_server» .entry) in
+        let client = now («to_client» .entry) in
+        let o = arrived session direction (now (octets .entry)) (length server) (length client) in
+        ⌜ r ≡ o .called ⌝ }
+    ensures server { λ r.
+        let server = now («to_server» .entry) in
+        let client = now («to_client» .entry) in
+        let o = arrived session direction (now (octets .entry)) (length server) (length client) in
+        ⌜ now («to_server» .exit) ≡ o .toServer ++ drop (r .written .server) server ⌝ }
+    ensures client { λ r.
+        let server = now («to_server» .entry) in
+        let client = now («to_client» .entry) in
+        let o = arrived session direction (now (octets .entry)) (length server) (length client) in
+        ⌜ now («to_client» .exit) ≡ o .toClient ++ drop (r .written .client) client ⌝ }
 {
     if let Refusal::By(answer) = refusal_of(session, direction) {
         return refused(answer, session);
@@ -229,7 +243,8 @@ fn laid(
 ) -> [u8; LENT_SIZE]
     ensures arrays { λ r. ⌜ r ≡ client ++ (mapped ++ (kinds ++ (command ++ reply))) ⌝ }
     ensures lengths { λ _.
-        ⌜ (length client ≡ ipv6Width) × (length mapped ≡ ipv4Width) × (length kinds ≡ mostOwed) × (length command ≡ mostHeld) × (length reply ≡ mostHeld) ⌝ }
+        ⌜ (length client ≡ ipv6Width) × (length mapped ≡ ipv4Width) × (length kinds ≡ mostOwed)
+        × (length command ≡ mostHeld) × (length reply ≡ mostHeld) ⌝ }
 {
     let mut lent = [0u8; LENT_SIZE];
     put(&mut lent, 0, &client);
@@ -276,7 +291,9 @@ fn after(
     reply: Line,
     kinds: Kinds,
 ) -> Session
-    ensures { λ r. ⌜ r ≡ sessionAfter session (sideIf «from_client») taken (written .server) (written .client) (stateFrom control command reply kinds) ⌝ }
+    ensures { λ r.
+        ⌜ r ≡ sessionAfter session (sideIf «from_client») taken (written .server) (written .client)
+        (stateFrom control command reply kinds) ⌝ }
 {
     let fixed = session.fixed;
     let sent = session.up;
@@ -339,9 +356,21 @@ fn low_half(n: usize) -> u32
 
 // A direction ends: its held octets pass.
 pub fn end(session: Session, direction: u8, to_server: &mut [u8], to_client: &mut [u8]) -> Called
-    ensures { λ r. ⌜ r ≡ endCalled session direction (length (now («to_server» .entry))) (length (now («to_client» .entry))) .called ⌝ }
-    ensures { λ r. ⌜ now («to_server» .exit) ≡ endCalled session direction (length (now («to_server» .entry))) (length (now («to_client» .entry))) .toServer ++ drop (r .written .server) (now («to_server» .entry)) ⌝ }
-    ensures { λ r. ⌜ now («to_client» .exit) ≡ endCalled session direction (length (now («to_server» .entry))) (length (now («to_client» .entry))) .toClient ++ drop (r .written .client) (now («to_client» .entry)) ⌝ }
+    ensures result { λ r.
+        let server = now («to_server» .entry) in
+        let client = now («to_client» .entry) in
+        let o = endCalled session direction (length server) (length client) in
+        ⌜ r ≡ o .called ⌝ }
+    ensures server { λ r.
+        let server = now («to_server» .entry) in
+        let client = now («to_client» .entry) in
+        let o = endCalled session direction (length server) (length client) in
+        ⌜ now («to_server» .exit) ≡ o .toServer ++ drop (r .written .server) server ⌝ }
+    ensures client { λ r.
+        let server = now («to_server» .entry) in
+        let client = now («to_client» .entry) in
+        let o = endCalled session direction (length server) (length client) in
+        ⌜ now («to_client» .exit) ≡ o .toClient ++ drop (r .written .client) client ⌝ }
 {
     if let Refusal::By(answer) = refusal_of(session, direction) {
         return refused(answer, session);

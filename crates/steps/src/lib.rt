@@ -7,7 +7,8 @@ ghost use Rattle.rules.specs.Answers.{isQueueFull, mostOwed};
 ghost use Rattle.records.specs.Layout.{lentKinds, lentSize};
 ghost use Rattle.places.specs.Places.{isPassing};
 ghost use Rattle.records.specs.Sound.{sideIf, Counted};
-ghost use Rattle.steps.specs.Takes.{fixedLent, addressesLent, kindsLent, coreLent, coreBehind, isWithin, tookNext};
+ghost use Rattle.steps.specs.Takes.{fixedLent, addressesLent, kindsLent, coreLent, coreBehind, isWithin};
+ghost use Rattle.steps.specs.Takes.{tookNext};
 ghost use Rattle.steps.specs.Core.{Bounded, Stepped};
 use octet::any_octet;
 use output::four;
@@ -70,7 +71,8 @@ fn kinds_in(lent: &[u8]) -> Kinds
 
 fn put_kinds(lent: &mut [u8], kinds: Kinds)
     requires { ⌜ length (now lent) ≡ lentSize ⌝ }
-    ensures { λ _. ⌜ (now (lent .exit) ≡ putMid lentKinds mostOwed (now (lent .entry)) kinds) × (length kinds ≡ mostOwed) ⌝ }
+    ensures { λ _.
+        ⌜ (now (lent .exit) ≡ putMid lentKinds mostOwed (now (lent .entry)) kinds) × (length kinds ≡ mostOwed) ⌝ }
 {
     put(&mut lent[LENT_KINDS..LENT_COMMAND], 0, &kinds);
 }
@@ -103,10 +105,12 @@ pub fn next_octet(
     to_client: &mut [u8],
     written: Written,
 ) -> Next
-    ensures { λ r.
+    ensures stepped { λ r.
         let k = coreLent control (now (lent .entry)) (now («to_server» .entry)) (now («to_client» .entry)) written in
-        let m = coreLent (r .control) (now (lent .exit)) (now («to_server» .exit)) (now («to_client» .exit)) (r .written) in
-        let can = isWithin control (length (now (lent .entry))) (length (now («to_server» .entry))) (length (now («to_client» .entry))) written in
+        let m = coreLent (r .control) (now (lent .exit)) (now («to_server» .exit)) (now («to_client» .exit))
+        (r .written) in
+        let can = isWithin control (length (now (lent .entry))) (length (now («to_server» .entry)))
+        (length (now («to_client» .entry))) written in
         let t = tookNext can (fixedLent supported (now (lent .entry))) (sideIf «from_client») x k in
         ⌜ (r .answer ≡ t .answer) × (m ≡ coreBehind t k) ⌝ }
     ensures fixed { λ _. ⌜ addressesLent (now (lent .exit)) ≡ addressesLent (now (lent .entry)) ⌝ }
@@ -163,12 +167,14 @@ fn lent_octet(
     to_client: &mut [u8],
     written: Written,
 ) -> Fitted
-    requires { ⌜ Bounded control written (now «to_server») (now «to_client») ⌝ }
-    requires { ⌜ length (now lent) ≡ lentSize ⌝ }
-    requires { ⌜ isQueueFull (sideIf «from_client») (isPassing (control .client .place)) (control .owed) ≡ false ⌝ }
-    ensures { λ r.
+    requires bounds { ⌜ Bounded control written (now «to_server») (now «to_client») ⌝ }
+    requires lengths { ⌜ length (now lent) ≡ lentSize ⌝ }
+    requires queue { ⌜ isQueueFull (sideIf «from_client») (isPassing (control .client .place)) (control .owed)
+        ≡ false ⌝ }
+    ensures stepped { λ r.
         let k = coreLent control (now (lent .entry)) (now («to_server» .entry)) (now («to_client» .entry)) written in
-        let m = coreLent (r .control) (now (lent .exit)) (now («to_server» .exit)) (now («to_client» .exit)) (r .written) in
+        let m = coreLent (r .control) (now (lent .exit)) (now («to_server» .exit)) (now («to_client» .exit))
+        (r .written) in
         ⌜ Stepped (fixedLent supported (now (lent .entry))) (sideIf «from_client») x k (r .fits) m ⌝ }
     ensures fixed { λ _. ⌜ addressesLent (now (lent .exit)) ≡ addressesLent (now (lent .entry)) ⌝ }
 {

@@ -1,4 +1,5 @@
-// What one octet of the client does on the client's side: what it gives, where its direction stands then, and what is owed for it.
+// What one octet of the client does on the client's side: what it gives, where its direction stands then, and what is
+// owed for it.
 ghost use mathlib.Core.Path.{_≡_};
 ghost use lib.Dec.{eqb};
 ghost use lib.ListN.{take};
@@ -6,7 +7,8 @@ ghost use Rattle.rules.specs.Octets.{lf, choose};
 ghost use Rattle.rules.specs.Commands.{commandOwes, answerSwitches, commandSwitches};
 ghost use Rattle.rules.specs.Replies.{isAuth};
 ghost use Rattle.places.specs.Places.{at as directionAt};
-ghost use Rattle.upstream.specs.Upstream.{clientEffectOf, commandEffect, judgedEffect, joinEffect, placeEffect, clientEffect};
+ghost use Rattle.upstream.specs.Upstream.{clientEffectOf, commandEffect, judgedEffect, joinEffect, placeEffect};
+ghost use Rattle.upstream.specs.Upstream.{clientEffect};
 use gives::Gives;
 use places::Direction;
 use places::LF;
@@ -152,7 +154,10 @@ fn hold_effect(fixed: Fixed, switches: Switches, held: usize, line: &[u8], x: u8
 
 // An octet of a client line that flows: at its LF a plain reply is owed.
 fn flow_effect(switches: Switches, x: u8) -> ClientEffect
-    ensures { λ r. ⌜ r ≡ choose (eqb x lf) (clientEffectOf Gives.Octet (directionAt Place.Holding 0) switches (Owes.One Kind.Plain)) (clientEffectOf Gives.Octet (directionAt Place.Flowing 0) switches Owes.Nothing) ⌝ }
+    ensures { λ r.
+        ⌜ r ≡ choose (eqb x lf)
+        (clientEffectOf Gives.Octet (directionAt Place.Holding 0) switches (Owes.One Kind.Plain))
+        (clientEffectOf Gives.Octet (directionAt Place.Flowing 0) switches Owes.Nothing) ⌝ }
 {
     if x == LF {
         return ClientEffect {

@@ -1,5 +1,6 @@
-// Runs the readers and writers of lines on the vectors of its standard input, one on each line: a letter that says which reader, a space, the text.
-// For each it writes what was read, so that the output can be compared with what others read.
+// Runs the readers and writers of lines on the vectors of its standard input, one on each line: a letter that says
+// which reader, a space, the text. For each it writes what was read, so that the output can be compared with what
+// others read.
 use libc::STDIN_FILENO;
 use libc::STDOUT_FILENO;
 use rules::Command;

@@ -1,4 +1,5 @@
-// The lines that the gateway writes for a command or a reply, each with its length known before it is written. A line goes in whole or not at all.
+// The lines that the gateway writes for a command or a reply, each with its length known before it is written. A line
+// goes in whole or not at all.
 use output::decimal_length;
 use output::has_room;
 use output::put;
@@ -19,8 +20,8 @@ pub fn pasv_length() -> usize
 }
 
 pub fn put_pasv(out: &mut [u8], at: usize) -> usize
-    ensures { λ r. ⌜ r ≡ positionAfter (now (out .entry)) at pasvLine ⌝ }
-    ensures { λ r. ⌜ now (out .exit) ≡ putAt (now (out .entry)) at pasvLine ⌝ }
+    ensures next { λ r. ⌜ r ≡ positionAfter (now (out .entry)) at pasvLine ⌝ }
+    ensures buffer { λ r. ⌜ now (out .exit) ≡ putAt (now (out .entry)) at pasvLine ⌝ }
 {
     put(out, at, b"PASV\r\n")
 }
@@ -41,8 +42,8 @@ pub fn extended_passive_length(port: u16) -> usize
 }
 
 pub fn put_extended_passive(out: &mut [u8], at: usize, port: u16) -> usize
-    ensures { λ r. ⌜ r ≡ positionAfter (now (out .entry)) at (extendedPassiveLine port) ⌝ }
-    ensures { λ r. ⌜ now (out .exit) ≡ putAt (now (out .entry)) at (extendedPassiveLine port) ⌝ }
+    ensures next { λ r. ⌜ r ≡ positionAfter (now (out .entry)) at (extendedPassiveLine port) ⌝ }
+    ensures buffer { λ r. ⌜ now (out .exit) ≡ putAt (now (out .entry)) at (extendedPassiveLine port) ⌝ }
 {
     if !has_room(out.len(), at, extended_passive_length(port)) {
         return at;
@@ -64,8 +65,8 @@ pub fn port_line_length(mapped: [u8; 4], port: u16) -> usize
 }
 
 pub fn put_port_line(out: &mut [u8], at: usize, mapped: [u8; 4], port: u16) -> usize
-    ensures { λ r. ⌜ r ≡ positionAfter (now (out .entry)) at (portLine mapped port) ⌝ }
-    ensures { λ r. ⌜ now (out .exit) ≡ putAt (now (out .entry)) at (portLine mapped port) ⌝ }
+    ensures next { λ r. ⌜ r ≡ positionAfter (now (out .entry)) at (portLine mapped port) ⌝ }
+    ensures buffer { λ r. ⌜ now (out .exit) ≡ putAt (now (out .entry)) at (portLine mapped port) ⌝ }
 {
     if !has_room(out.len(), at, port_line_length(mapped, port)) {
         return at;
@@ -79,8 +80,8 @@ pub fn put_port_line(out: &mut [u8], at: usize, mapped: [u8; 4], port: u16) -> u
 }
 
 fn pair_length(a: u8, b: u8) -> usize
-    ensures { λ r. ⌜ r ≡ length (commas (a ∷ b ∷ [])) ⌝ }
-    ensures { λ r. ⌜ r ≤ 11 ⌝ }
+    ensures result { λ r. ⌜ r ≡ length (commas (a ∷ b ∷ [])) ⌝ }
+    ensures most { λ r. ⌜ r ≤ 11 ⌝ }
 {
     decimal_length(a as u16) + 1 + decimal_length(b as u16)
 }
