@@ -8,7 +8,7 @@ ghost use Prim.Native.Nat.{_+_, _<_};
 ghost use lib.Dec.{leb};
 ghost use lib.ListN.{length};
 ghost use Rattle.rules.specs.Octets.{decimal};
-ghost use Rattle.output.specs.Buffer.{putAt, positionAfter, PutInRoom};
+ghost use Rattle.output.specs.Buffer.{Put, PutInRoom};
 ghost use Rattle.fields.specs.Report.{hexGlyph, standsAsItself, shown, field, entryLine, headerLine};
 ghost use Rattle.fields.specs.Parts.{roomAfter, doneOf};
 
@@ -55,8 +55,7 @@ fn shown_length(x: u8) -> usize
 
 // An octet as itself, or as a backslash and two hex digits.
 fn put_shown(out: &mut [u8], at: usize, x: u8) -> usize
-    ensures next { λ r. ⌜ r ≡ positionAfter (now (out .entry)) at (shown x) ⌝ }
-    ensures buffer { λ r. ⌜ now (out .exit) ≡ putAt (now (out .entry)) at (shown x) ⌝ }
+    ensures { λ r. ⌜ Put (now (out .entry)) at (shown x) r (now (out .exit)) ⌝ }
 {
     if stands_as_itself(x) {
         return put(out, at, &[x]);
@@ -89,8 +88,7 @@ fn room_after(room: usize, octets: &[u8]) -> Room
 
 // All of a field from `at` on, or nothing; the next position.
 pub fn put_field(out: &mut [u8], at: usize, octets: &[u8]) -> usize
-    ensures next { λ r. ⌜ r ≡ positionAfter (now (out .entry)) at (field (now (octets .entry))) ⌝ }
-    ensures buffer { λ r. ⌜ now (out .exit) ≡ putAt (now (out .entry)) at (field (now (octets .entry))) ⌝ }
+    ensures { λ r. ⌜ Put (now (out .entry)) at (field (now (octets .entry))) r (now (out .exit)) ⌝ }
 {
     if octets.len() == 0 {
         return put(out, at, b"-");
@@ -130,8 +128,7 @@ fn put_part(out: &mut [u8], at: usize, octets: &[u8], after: &[u8]) -> usize
 
 // The report's first line, or nothing where it does not fit; the next position.
 pub fn put_header(out: &mut [u8], at: usize, count: u16) -> usize
-    ensures next { λ r. ⌜ r ≡ positionAfter (now (out .entry)) at (headerLine count) ⌝ }
-    ensures buffer { λ r. ⌜ now (out .exit) ≡ putAt (now (out .entry)) at (headerLine count) ⌝ }
+    ensures { λ r. ⌜ Put (now (out .entry)) at (headerLine count) r (now (out .exit)) ⌝ }
 {
     if out.len() < at {
         return at;
@@ -187,12 +184,9 @@ pub fn put_entry_line(
     to_server: &[u8],
     to_client: &[u8],
 ) -> usize
-    ensures next { λ r.
+    ensures { λ r.
         let line = entryLine n (doneOf taken number (now («to_server» .entry)) (now («to_client» .entry))) in
-        ⌜ r ≡ positionAfter (now (out .entry)) at line ⌝ }
-    ensures buffer { λ r.
-        let line = entryLine n (doneOf taken number (now («to_server» .entry)) (now («to_client» .entry))) in
-        ⌜ now (out .exit) ≡ putAt (now (out .entry)) at line ⌝ }
+        ⌜ Put (now (out .entry)) at line r (now (out .exit)) ⌝ }
 {
     if !line_fits(out.len(), at, n, taken, number, to_server, to_client) {
         return at;

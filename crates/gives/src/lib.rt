@@ -3,7 +3,7 @@ ghost use mathlib.Core.Path.{_≡_};
 ghost use mathlib.Core.List.{_++_, _∷_, []};
 ghost use lib.ListN.{length};
 ghost use Rattle.rules.specs.Lines.{passed};
-ghost use Rattle.output.specs.Buffer.{putAt, positionAfter};
+ghost use Rattle.output.specs.Buffer.{Put};
 ghost use Rattle.gives.specs.Text.{givesText};
 use rules::Fixed;
 
@@ -37,12 +37,9 @@ pub fn gives_length(gives: Gives, fixed: Fixed, held: &[u8], x: u8) -> usize
 
 // The octets given are put into a buffer; where they do not fit, nothing is.
 pub fn put_gives(out: &mut [u8], at: usize, gives: Gives, fixed: Fixed, held: &[u8], x: u8) -> usize
-    ensures next { λ r.
+    ensures { λ r.
         let text = givesText fixed (now (held .entry)) x gives in
-        ⌜ r ≡ positionAfter (now (out .entry)) at text ⌝ }
-    ensures buffer { λ r.
-        let text = givesText fixed (now (held .entry)) x gives in
-        ⌜ now (out .exit) ≡ putAt (now (out .entry)) at text ⌝ }
+        ⌜ Put (now (out .entry)) at text r (now (out .exit)) ⌝ }
 {
     let mapped = fixed.mapped;
     match gives {
@@ -58,8 +55,7 @@ pub fn put_gives(out: &mut [u8], at: usize, gives: Gives, fixed: Fixed, held: &[
 
 // One octet as a slice of its own.
 fn put_octet(out: &mut [u8], at: usize, x: u8) -> usize
-    ensures next { λ r. ⌜ r ≡ positionAfter (now (out .entry)) at (x ∷ []) ⌝ }
-    ensures buffer { λ r. ⌜ now (out .exit) ≡ putAt (now (out .entry)) at (x ∷ []) ⌝ }
+    ensures { λ r. ⌜ Put (now (out .entry)) at (x ∷ []) r (now (out .exit)) ⌝ }
 {
     output::put(out, at, &[x])
 }
@@ -73,16 +69,14 @@ pub fn passed_length(held: &[u8]) -> usize
 
 // What they give is put into a buffer, all or nothing; the next position.
 pub fn put_passed(out: &mut [u8], at: usize, held: &[u8]) -> usize
-    ensures next { λ r. ⌜ r ≡ positionAfter (now (out .entry)) at (passed (now (held .entry))) ⌝ }
-    ensures buffer { λ r. ⌜ now (out .exit) ≡ putAt (now (out .entry)) at (passed (now (held .entry))) ⌝ }
+    ensures { λ r. ⌜ Put (now (out .entry)) at (passed (now (held .entry))) r (now (out .exit)) ⌝ }
 {
     output::put(out, at, held)
 }
 
 // What a line's held octets give and one octet more behind it, all or nothing; the next position.
 pub fn put_line(out: &mut [u8], at: usize, held: &[u8], x: u8) -> usize
-    ensures next { λ r. ⌜ r ≡ positionAfter (now (out .entry)) at (passed (now (held .entry)) ++ (x ∷ [])) ⌝ }
-    ensures buffer { λ r. ⌜ now (out .exit) ≡ putAt (now (out .entry)) at (passed (now (held .entry)) ++ (x ∷ [])) ⌝ }
+    ensures { λ r. ⌜ Put (now (out .entry)) at (passed (now (held .entry)) ++ (x ∷ [])) r (now (out .exit)) ⌝ }
 {
     if out.len() < at {
         return at;

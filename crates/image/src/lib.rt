@@ -5,7 +5,7 @@ ghost use mathlib.Core.List.{_++_};
 ghost use lib.ListN.{length};
 ghost use Rattle.rules.specs.Lines.{mostHeld};
 ghost use Rattle.records.specs.Layout.{numberWidth, epsvAt, imageSize};
-ghost use Rattle.output.specs.Buffer.{putAt, positionAfter, PutInRoom};
+ghost use Rattle.output.specs.Buffer.{Put, putAt, PutInRoom};
 ghost use Rattle.records.specs.Sound.{refusalOf, refusalBy, Counted};
 ghost use Rattle.session.specs.Calls.{deadSession};
 ghost use Rattle.image.specs.Image.{markOf as bitOf, placeNumber, fourOctets, capped as cappedAt, marksIn};
@@ -143,8 +143,7 @@ fn uncapped(n: usize) -> u32
 
 // A number in four octets, low octet first.
 fn put_number(out: &mut [u8], at: usize, n: u32) -> usize
-    ensures next { λ r. ⌜ r ≡ positionAfter (now (out .entry)) at (fourOctets n) ⌝ }
-    ensures buffer { λ r. ⌜ now (out .exit) ≡ putAt (now (out .entry)) at (fourOctets n) ⌝ }
+    ensures { λ r. ⌜ Put (now (out .entry)) at (fourOctets n) r (now (out .exit)) ⌝ }
 {
     let octets = [
         (n % 256) as u8,

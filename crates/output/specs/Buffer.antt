@@ -19,7 +19,10 @@ putAt out at src = choose (fitsAt out at src) (take at out ++ (src ++ drop (at +
 unfoldable pub positionAfter : List ℕ → ℕ → List ℕ → ℕ
 positionAfter out at src = choose (fitsAt out at src) (at + length src) at
 
+-- what a writer promises: src is put, and the position behind it returned
+abbrev pub Put : List ℕ → ℕ → List ℕ → ℕ → List ℕ → Type 0
+Put out at src next after = (next ≡ positionAfter out at src) × (after ≡ putAt out at src)
+
 -- what a writer of a part of a line promises: a part that has room is put
 abbrev pub PutInRoom : List ℕ → ℕ → List ℕ → ℕ → List ℕ → Type 0
-PutInRoom out at part next after =
-    at + length part ≤ length out → (next ≡ positionAfter out at part) × (after ≡ putAt out at part)
+PutInRoom out at part next after = at + length part ≤ length out → Put out at part next after

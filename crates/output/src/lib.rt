@@ -4,7 +4,7 @@ ghost use Prim.Native.Nat.{min, _+_, _%_, _≤_};
 ghost use lib.Dec.{leb};
 ghost use lib.ListN.{length, replicate};
 ghost use Rattle.rules.specs.Octets.{decimal};
-ghost use Rattle.output.specs.Buffer.{putAt, positionAfter};
+ghost use Rattle.output.specs.Buffer.{Put, putAt};
 
 // The most octets that are moved at once.
 const BLOCK: usize = 1024;
@@ -21,8 +21,7 @@ pub fn has_room(length: usize, at: usize, n: usize) -> bool
 
 // All of `src` from `at` on, or nothing; the next position.
 pub fn put(out: &mut [u8], at: usize, src: &[u8]) -> usize
-    ensures next { λ r. ⌜ r ≡ positionAfter (now (out .entry)) at (now (src .entry)) ⌝ }
-    ensures buffer { λ r. ⌜ now (out .exit) ≡ putAt (now (out .entry)) at (now (src .entry)) ⌝ }
+    ensures { λ r. ⌜ Put (now (out .entry)) at (now (src .entry)) r (now (out .exit)) ⌝ }
 {
     if !has_room(out.len(), at, src.len()) {
         return at;
@@ -109,8 +108,7 @@ pub fn decimal_length(n: u16) -> usize
 
 // The five last digits of the number, without the zeros in front.
 pub fn put_decimal(out: &mut [u8], at: usize, n: u16) -> usize
-    ensures next { λ r. ⌜ r ≡ positionAfter (now (out .entry)) at (decimal n) ⌝ }
-    ensures buffer { λ r. ⌜ now (out .exit) ≡ putAt (now (out .entry)) at (decimal n) ⌝ }
+    ensures { λ r. ⌜ Put (now (out .entry)) at (decimal n) r (now (out .exit)) ⌝ }
 {
     let tens = n / 10;
     let hundreds = tens / 10;

@@ -5,7 +5,7 @@ use rules::Switches;
 ghost use mathlib.Core.Path.{_≡_};
 ghost use lib.ListN.{length};
 ghost use Rattle.rules.specs.Replies.{stateLine, answerLine};
-ghost use Rattle.output.specs.Buffer.{putAt, positionAfter};
+ghost use Rattle.output.specs.Buffer.{Put};
 
 pub fn answer_length(a: OwnAnswer) -> usize
     ensures { λ r. ⌜ r ≡ length (answerLine a) ⌝ }
@@ -18,8 +18,7 @@ pub fn answer_length(a: OwnAnswer) -> usize
 }
 
 pub fn put_answer(out: &mut [u8], at: usize, a: OwnAnswer) -> usize
-    ensures next { λ r. ⌜ r ≡ positionAfter (now (out .entry)) at (answerLine a) ⌝ }
-    ensures buffer { λ r. ⌜ now (out .exit) ≡ putAt (now (out .entry)) at (answerLine a) ⌝ }
+    ensures { λ r. ⌜ Put (now (out .entry)) at (answerLine a) r (now (out .exit)) ⌝ }
 {
     match a {
         OwnAnswer::ProtocolNotSupported => put(out, at, b"522 Network protocol not supported\r\n"),
@@ -34,8 +33,7 @@ pub fn put_answer(out: &mut [u8], at: usize, a: OwnAnswer) -> usize
 
 // The 216 line, by the switches that are on.
 fn put_state(out: &mut [u8], at: usize, on: Switches) -> usize
-    ensures next { λ r. ⌜ r ≡ positionAfter (now (out .entry)) at (stateLine (on .epsv) (on .eprt)) ⌝ }
-    ensures buffer { λ r. ⌜ now (out .exit) ≡ putAt (now (out .entry)) at (stateLine (on .epsv) (on .eprt)) ⌝ }
+    ensures { λ r. ⌜ Put (now (out .entry)) at (stateLine (on .epsv) (on .eprt)) r (now (out .exit)) ⌝ }
 {
     if on.epsv {
         if on.eprt {

@@ -5,7 +5,7 @@ ghost use Prim.Native.Nat.{_+_, _≤_};
 ghost use lib.ListN.{length, drop};
 ghost use Rattle.rules.specs.Replies.{headAnswers, authAtHead};
 ghost use Rattle.rules.specs.Answers.{mostAnswers};
-ghost use Rattle.output.specs.Buffer.{putAt, positionAfter};
+ghost use Rattle.output.specs.Buffer.{Put};
 ghost use Rattle.queue.specs.Kinds.{answerCode, codeOf, stateKind, kindOf, queueOf, headOf, answersAtHead};
 ghost use Rattle.queue.specs.Kinds.{pushed, shiftedIn, isStill};
 ghost use Rattle.queue.specs.Heads.{answerFirst, planOf};
@@ -155,12 +155,9 @@ fn due(kinds: Kinds, from: usize, owed: usize) -> AnswersDue
 
 // Those answers from `at` on, or nothing where they do not all fit; the next position.
 pub fn put_answers(out: &mut [u8], at: usize, kinds: Kinds, from: usize, owed: usize) -> usize
-    ensures next { λ r.
+    ensures { λ r.
         let text = headAnswers (drop from (queueOf kinds owed)) in
-        ⌜ r ≡ positionAfter (now (out .entry)) at text ⌝ }
-    ensures buffer { λ r.
-        let text = headAnswers (drop from (queueOf kinds owed)) in
-        ⌜ now (out .exit) ≡ putAt (now (out .entry)) at text ⌝ }
+        ⌜ Put (now (out .entry)) at text r (now (out .exit)) ⌝ }
 {
     if out.len() < at {
         return at;

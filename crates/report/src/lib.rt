@@ -20,7 +20,7 @@ ghost use Prim.Native.Nat.{_≤_};
 ghost use lib.Dec.{eqb};
 ghost use lib.ListN.{length, take};
 ghost use Rattle.rules.specs.Octets.{choose};
-ghost use Rattle.output.specs.Buffer.{putAt, positionAfter};
+ghost use Rattle.output.specs.Buffer.{Put, putAt};
 ghost use Rattle.session.specs.Calls.{deadSession};
 ghost use Rattle.fields.specs.Report.{outRoom, setUp, runEntry};
 ghost use Rattle.fields.specs.Parts.{doneOf};
@@ -289,12 +289,9 @@ fn put_entry(
     to_server: &[u8],
     to_client: &[u8],
 ) -> usize
-    ensures next { λ r.
+    ensures { λ r.
         let text = entryText number (doneOf taken answer (now («to_server» .entry)) (now («to_client» .entry))) in
-        ⌜ r ≡ positionAfter (now (out .entry)) 0 text ⌝ }
-    ensures buffer { λ r.
-        let text = entryText number (doneOf taken answer (now («to_server» .entry)) (now («to_client» .entry))) in
-        ⌜ now (out .exit) ≡ putAt (now (out .entry)) 0 text ⌝ }
+        ⌜ Put (now (out .entry)) 0 text r (now (out .exit)) ⌝ }
 {
     if answer == 0 {
         return put_entry_line(out, 0, number, taken, answer, to_server, to_client);

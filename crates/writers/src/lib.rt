@@ -11,7 +11,7 @@ ghost use lib.ListN.{length};
 ghost use Rattle.rules.specs.Octets.{decimal};
 ghost use Rattle.rules.specs.Commands.{commas, pasvLine, portLine};
 ghost use Rattle.rules.specs.Replies.{extendedPassiveLine};
-ghost use Rattle.output.specs.Buffer.{putAt, positionAfter, PutInRoom};
+ghost use Rattle.output.specs.Buffer.{Put, PutInRoom};
 
 pub fn pasv_length() -> usize
     ensures { λ r. ⌜ r ≡ length pasvLine ⌝ }
@@ -20,8 +20,7 @@ pub fn pasv_length() -> usize
 }
 
 pub fn put_pasv(out: &mut [u8], at: usize) -> usize
-    ensures next { λ r. ⌜ r ≡ positionAfter (now (out .entry)) at pasvLine ⌝ }
-    ensures buffer { λ r. ⌜ now (out .exit) ≡ putAt (now (out .entry)) at pasvLine ⌝ }
+    ensures { λ r. ⌜ Put (now (out .entry)) at pasvLine r (now (out .exit)) ⌝ }
 {
     put(out, at, b"PASV\r\n")
 }
@@ -42,8 +41,7 @@ pub fn extended_passive_length(port: u16) -> usize
 }
 
 pub fn put_extended_passive(out: &mut [u8], at: usize, port: u16) -> usize
-    ensures next { λ r. ⌜ r ≡ positionAfter (now (out .entry)) at (extendedPassiveLine port) ⌝ }
-    ensures buffer { λ r. ⌜ now (out .exit) ≡ putAt (now (out .entry)) at (extendedPassiveLine port) ⌝ }
+    ensures { λ r. ⌜ Put (now (out .entry)) at (extendedPassiveLine port) r (now (out .exit)) ⌝ }
 {
     if !has_room(out.len(), at, extended_passive_length(port)) {
         return at;
@@ -65,8 +63,7 @@ pub fn port_line_length(mapped: [u8; 4], port: u16) -> usize
 }
 
 pub fn put_port_line(out: &mut [u8], at: usize, mapped: [u8; 4], port: u16) -> usize
-    ensures next { λ r. ⌜ r ≡ positionAfter (now (out .entry)) at (portLine mapped port) ⌝ }
-    ensures buffer { λ r. ⌜ now (out .exit) ≡ putAt (now (out .entry)) at (portLine mapped port) ⌝ }
+    ensures { λ r. ⌜ Put (now (out .entry)) at (portLine mapped port) r (now (out .exit)) ⌝ }
 {
     if !has_room(out.len(), at, port_line_length(mapped, port)) {
         return at;
