@@ -8,14 +8,8 @@ use Rattle.address.proofs.Wholes.{eight-refused, eight-other, eight-rea
 use Rattle.address.proofs.eight_groups.Statement.{statement}
 use Rattle.address.proofs.eight_groups.Tie as tie
 
-no-address-requires : tie.Need-no-address-requires
-no-address-requires c κs = search needs
-
 returns : tie.Need-returns
 returns c = c .no-address .ensures ∙ ap ipv6Read (sym (eight-refused _ (not-true _ (c .before .if1 .taken))))
-
-no-address-requires-2 : tie.Need-no-address-requires-2
-no-address-requires-2 c κs = search needs
 
 returns-2 : tie.Need-returns-2
 returns-2 c =
@@ -32,4 +26,4 @@ returns-3 c =
 
 pub eight-groups-spec : {M : Type 1} → statement M
 eight-groups-spec =
-    tie.close (tie.spec no-address-requires returns no-address-requires-2 returns-2 returns-3)
+    tie.close (tie.spec (λ c κs. search needs) returns (λ c κs. search needs) returns-2 returns-3)

@@ -16,24 +16,12 @@ use Rattle.address.proofs.filled.Tie as tie
 kept : (h : Reading) → length (h .octets) ≡ 16 → h .count ≤ 16 → length (take (h .count) (h .octets)) ≡ h .count
 kept h size room = length-take-le (h .count) (h .octets) (omega arith)
 
-no-address-requires : tie.Need-no-address-requires
-no-address-requires c κs = search needs
-
 returns : tie.Need-returns
 returns c = c .no-address .ensures ∙ ap ipv6Read (sym (filled-no-left _ _ (not-true _ (c .before .if1 .taken))))
-
-no-address-requires-2 : tie.Need-no-address-requires-2
-no-address-requires-2 c κs = search needs
 
 returns-2 : tie.Need-returns-2
 returns-2 c =
     c .no-address2 .ensures ∙ ap ipv6Read (sym (filled-no-right _ _ (not-false _ (c .before .before .before .if1 .left)) (not-true _ (c .before .if2 .taken))))
-
-add-if3 : tie.Need-add-if3
-add-if3 c = search needs
-
-no-address-requires-3 : tie.Need-no-address-requires-3
-no-address-requires-3 c κs = search needs
 
 returns-3 : tie.Need-returns-3
 returns-3 c =
@@ -45,15 +33,6 @@ returns-3 c =
     (sym
     (filled-long (s .args .before) (s .args .after) (not-false _ (c .before .before .before .before .if1 .left)) (not-false _ (c .before .before .if2 .left))
     (kept (s .args .before) hs (s .pre .0)) (kept (s .args .after) ls (s .pre .1)) (c .before .if3 .taken)))
-
-pasted-requires : tie.Need-pasted-requires
-pasted-requires c κs = search needs
-
-sub-pasted : tie.Need-sub-pasted
-sub-pasted c = search needs
-
-pasted-requires-2 : tie.Need-pasted-requires-2
-pasted-requires-2 c κs = search needs
 
 returns-4 : tie.Need-returns-4
 unfolding ipv6Read
@@ -71,14 +50,14 @@ pub filled-spec : {M : Type 1} → statement M
 filled-spec =
     tie.close
     (tie.spec
-    no-address-requires
+    (λ c κs. search needs)
     returns
-    no-address-requires-2
+    (λ c κs. search needs)
     returns-2
-    add-if3
-    no-address-requires-3
+    (λ c. search needs)
+    (λ c κs. search needs)
     returns-3
-    pasted-requires
-    sub-pasted
-    pasted-requires-2
+    (λ c κs. search needs)
+    (λ c. search needs)
+    (λ c κs. search needs)
     returns-4)

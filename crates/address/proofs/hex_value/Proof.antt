@@ -6,12 +6,6 @@ use Rattle.address.proofs.Hex.{hex-digit, hex-capital, hex-small, hex-n
 use Rattle.address.proofs.hex_value.Statement.{statement}
 use Rattle.address.proofs.hex_value.Tie as tie
 
-sub-result : tie.Need-sub-result
-sub-result c = search needs
-
-sub-result-2 : tie.Need-sub-result-2
-sub-result-2 c = search needs
-
 returns : tie.Need-returns
 returns c = sym (hex-digit _ (omega arith) (omega arith))
 
@@ -37,8 +31,8 @@ pub hex-value-spec : {M : Type 1} → statement M
 hex-value-spec =
     tie.close
     (tie.spec
-    sub-result
-    sub-result-2
+    (λ c. search needs)
+    (λ c. search needs)
     returns
     returns-2
     returns-3

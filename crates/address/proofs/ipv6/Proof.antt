@@ -10,32 +10,14 @@ use Rattle.address.proofs.Wholes.{filled-fits, eight-fits}
 use Rattle.address.proofs.ipv6.Statement.{statement}
 use Rattle.address.proofs.ipv6.Tie as tie
 
-double-colon-requires : tie.Need-double-colon-requires
-double-colon-requires c κs = search needs
-
-add-rest : tie.Need-add-rest
-add-rest c = search needs
-
 slice-aggregate-half : tie.Need-slice-aggregate-half
 slice-aggregate-half c = sym (length-take-le (c .before .before .double-colon .result) (c .before .before .before .before .args .text .now) (omega arith))
-
-half-requires : tie.Need-half-requires
-half-requires c κs = search needs
 
 sub-half : tie.Need-sub-half
 sub-half c = omega (arith, c .before .before .before .double-colon .ensures .1 (c .before .before .if1 .taken))
 
 part-half-start : tie.Need-part-half-start
 part-half-start c = omega (arith, c .before .before .before .double-colon .ensures .1 (c .before .before .if1 .taken))
-
-part-half-end : tie.Need-part-half-end
-part-half-end c = search needs
-
-half-requires-2 : tie.Need-half-requires-2
-half-requires-2 c κs = search needs
-
-filled-requires : tie.Need-filled-requires
-filled-requires c κs = search needs
 
 returns : tie.Need-returns
 returns c =
@@ -44,12 +26,6 @@ returns c =
     c .filled .ensures
     ∙ ap ipv6Read
     (rw (c .before .before .before .half .ensures .gives, c .before .half2 .ensures .gives, filled-fits, rest-part t (found .result + 2)) (sym (ipv6-halves t (found .result) (found .ensures .0) (c .before .before .before .before .before .if1 .taken))))
-
-groups-requires : tie.Need-groups-requires
-groups-requires c κs = search needs
-
-eight-groups-requires : tie.Need-eight-groups-requires
-eight-groups-requires c κs = search needs
 
 returns-2 : tie.Need-returns-2
 returns-2 c =
@@ -62,16 +38,16 @@ pub ipv6-spec : {M : Type 1} → statement M
 ipv6-spec =
     tie.close
     (tie.spec
-    double-colon-requires
-    add-rest
+    (λ c κs. search needs)
+    (λ c. search needs)
     slice-aggregate-half
-    half-requires
+    (λ c κs. search needs)
     sub-half
     part-half-start
-    part-half-end
-    half-requires-2
-    filled-requires
+    (λ c. search needs)
+    (λ c κs. search needs)
+    (λ c κs. search needs)
     returns
-    groups-requires
-    eight-groups-requires
+    (λ c κs. search needs)
+    (λ c κs. search needs)
     returns-2)

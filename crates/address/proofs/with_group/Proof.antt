@@ -6,28 +6,10 @@ use Rattle.address.proofs.Readings.{refused-after, octets-put}
 use Rattle.address.proofs.with_group.Statement.{statement}
 use Rattle.address.proofs.with_group.Tie as tie
 
-hex-group-requires : tie.Need-hex-group-requires
-hex-group-requires c κs = search needs
-
-enum-known-high : tie.Need-enum-known-high
-enum-known-high c = search needs
-
-enum-told : tie.Need-enum-told
-enum-told c = search needs
-
-refused-requires : tie.Need-refused-requires
-refused-requires c κs = search needs
-
 returns : tie.Need-returns
 returns c =
     let none-read = c .before .before .before .hex-group .ensures ∙ ap groupGives (c .before .enum-told .given .1) in
     record { gives = c .refused .ensures .0 ∙ refused-after _ _ none-read; room = c .refused .ensures .1 }
-
-with-octet-requires : tie.Need-with-octet-requires
-with-octet-requires c κs = search needs
-
-with-octet-requires-2 : tie.Need-with-octet-requires-2
-with-octet-requires-2 c κs = search needs
 
 returns-2 : tie.Need-returns-2
 returns-2 c =
@@ -38,11 +20,11 @@ pub with-group-spec : {M : Type 1} → statement M
 with-group-spec =
     tie.close
     (tie.spec
-    hex-group-requires
-    enum-known-high
-    enum-told
-    refused-requires
+    (λ c κs. search needs)
+    (λ c. search needs)
+    (λ c. search needs)
+    (λ c κs. search needs)
     returns
-    with-octet-requires
-    with-octet-requires-2
+    (λ c κs. search needs)
+    (λ c κs. search needs)
     returns-2)

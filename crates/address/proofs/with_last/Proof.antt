@@ -9,15 +9,6 @@ use Rattle.rules.specs.Address.{lastGroup}
 use Rattle.address.proofs.with_last.Statement.{statement}
 use Rattle.address.proofs.with_last.Tie as tie
 
-times-requires : tie.Need-times-requires
-times-requires c κs = search needs
-
-with-dotted-requires : tie.Need-with-dotted-requires
-with-dotted-requires c κs = search needs
-
-with-group-requires : tie.Need-with-group-requires
-with-group-requires c κs = search needs
-
 returns : tie.Need-returns
 unfolding lastGroup choose
 returns c =
@@ -32,4 +23,4 @@ returns-2 c =
 
 pub with-last-spec : {M : Type 1} → statement M
 with-last-spec =
-    tie.close (tie.spec times-requires with-dotted-requires with-group-requires returns returns-2)
+    tie.close (tie.spec (λ c κs. search needs) (λ c κs. search needs) (λ c κs. search needs) returns returns-2)

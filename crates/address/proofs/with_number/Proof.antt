@@ -7,18 +7,6 @@ use Rattle.address.proofs.Numbers.{number-none, number-some, number-le,
 use Rattle.address.proofs.with_number.Statement.{statement}
 use Rattle.address.proofs.with_number.Tie as tie
 
-read-number-requires : tie.Need-read-number-requires
-read-number-requires c κs = search needs
-
-enum-known-value : tie.Need-enum-known-value
-enum-known-value c = search needs
-
-enum-told : tie.Need-enum-told
-enum-told c = search needs
-
-refused-requires : tie.Need-refused-requires
-refused-requires c κs = search needs
-
 returns : tie.Need-returns
 returns c =
     let none-read = number-none _ (sym (c .before .enum-told .given .1) ∙ c .before .before .before .read-number .ensures) in
@@ -29,9 +17,6 @@ cast-with-octet c =
     let read = number-some _ _ (sym (c .before .value .given .1) ∙ c .before .before .before .read-number .ensures) in
     omega (arith, number-le _ _ _ _ _ read)
 
-with-octet-requires : tie.Need-with-octet-requires
-with-octet-requires c κs = search needs
-
 returns-2 : tie.Need-returns-2
 returns-2 c =
     let read = number-some _ _ (sym (c .before .before .value .given .1) ∙ c .before .before .before .before .read-number .ensures) in
@@ -41,11 +26,11 @@ pub with-number-spec : {M : Type 1} → statement M
 with-number-spec =
     tie.close
     (tie.spec
-    read-number-requires
-    enum-known-value
-    enum-told
-    refused-requires
+    (λ c κs. search needs)
+    (λ c. search needs)
+    (λ c. search needs)
+    (λ c κs. search needs)
     returns
     cast-with-octet
-    with-octet-requires
+    (λ c κs. search needs)
     returns-2)

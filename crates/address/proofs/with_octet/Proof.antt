@@ -13,20 +13,11 @@ use Rattle.address.proofs.with_octet.Tie as tie
 returns : tie.Need-returns
 returns c = record { gives = refused-before _ _ (not-true _ (c .if1 .taken)); room = c .before .before .pre }
 
-refused-requires : tie.Need-refused-requires
-refused-requires c κs = search needs
-
 returns-2 : tie.Need-returns-2
 returns-2 c =
     let h = c .before .before .before .before .args .before in
     let size : length (h .octets) ≡ 16 = search needs in
     record { gives = c .refused .ensures .0 ∙ octet-full h _ size (c .before .before .before .before .pre) (c .before .if2 .taken); room = c .refused .ensures .1 }
-
-array-write-octets : tie.Need-array-write-octets
-array-write-octets c = search needs
-
-add-t8 : tie.Need-add-t8
-add-t8 c = search needs
 
 returns-3 : tie.Need-returns-3
 unfolding octetsOf choose
@@ -37,4 +28,4 @@ returns-3 c =
 
 pub with-octet-spec : {M : Type 1} → statement M
 with-octet-spec =
-    tie.close (tie.spec returns refused-requires returns-2 array-write-octets add-t8 returns-3)
+    tie.close (tie.spec returns (λ c κs. search needs) returns-2 (λ c. search needs) (λ c. search needs) returns-3)

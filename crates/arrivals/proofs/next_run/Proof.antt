@@ -23,9 +23,6 @@ use Rattle.arrivals.proofs.next_run.Tie as tie
 abbrev any : Fixed
 any = record { client = []; mapped = []; supported = false }
 
-plain-lines-requires : tie.Need-plain-lines-requires
-plain-lines-requires c κs = search needs
-
 returns : tie.Need-returns
 returns c = c .before .before .before .before .before .before .before .plain-lines .ensures
 
@@ -99,7 +96,7 @@ pub next-run-spec : {M : Type 1} → statement M
 next-run-spec =
     tie.close
     (tie.spec
-    plain-lines-requires
+    (λ c κs. search needs)
     (λ c. search needs)
     (λ c. search needs)
     (λ c. search needs)

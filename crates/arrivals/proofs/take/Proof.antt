@@ -12,12 +12,6 @@ use Rattle.arrivals.proofs.Going.{took-all, took-none, took-other}
 use Rattle.arrivals.proofs.take.Statement.{statement}
 use Rattle.arrivals.proofs.take.Tie as tie
 
-holdable-requires : tie.Need-holdable-requires
-holdable-requires c κs = search needs
-
-nothing-taken-requires : tie.Need-nothing-taken-requires
-nothing-taken-requires c κs = search needs
-
 returns : tie.Need-returns
 returns c =
     let a = c .before .before .before .before .before .before .before .args in
@@ -28,9 +22,6 @@ returns c =
           (took-none (a .supported) (sideIf (a .from-client)) (a .start) (a .lent .now) (a .octets .now) (sym (c .before .before .holdable .ensures) ∙ not-true _ (c .before .if1 .taken)) (a .to-server .now) (a .to-client .now)),
       (refl, λ counts. subst Counted (sym (ap (λ (r : Taken). r .control) none)) counts),
     )
-
-nothing-taken-requires-2 : tie.Need-nothing-taken-requires-2
-nothing-taken-requires-2 c κs = search needs
 
 returns-2 : tie.Need-returns-2
 returns-2 c =
@@ -46,15 +37,6 @@ returns-2 c =
 take-each-requires : tie.Need-take-each-requires
 take-each-requires c κs =
     (holdable-counts (c .before .before .before .before .before .before .before .before .before .before .args .start) (sym (c .before .before .before .before .before .holdable .ensures) ∙ not-false _ (c .before .before .before .before .if1 .left)), c .before .before .before .if2 .left)
-
-same-length : tie.Need-same-length
-same-length c = search needs
-
-same-length-2 : tie.Need-same-length-2
-same-length-2 c = search needs
-
-same-length-3 : tie.Need-same-length-3
-same-length-3 c = search needs
 
 returns-3 : tie.Need-returns-3
 returns-3 c =
@@ -72,13 +54,13 @@ pub take-spec : {M : Type 1} → statement M
 take-spec =
     tie.close
     (tie.spec
-    holdable-requires
-    nothing-taken-requires
+    (λ c κs. search needs)
+    (λ c κs. search needs)
     returns
-    nothing-taken-requires-2
+    (λ c κs. search needs)
     returns-2
     take-each-requires
-    same-length
-    same-length-2
-    same-length-3
+    (λ c. search needs)
+    (λ c. search needs)
+    (λ c. search needs)
     returns-3)

@@ -5,21 +5,6 @@ use borrow.Author.Needs.{needs}
 use Rattle.commands.proofs.algs_command.Statement.{statement}
 use Rattle.commands.proofs.algs_command.Tie as tie
 
-algs-argument-requires : tie.Need-algs-argument-requires
-algs-argument-requires c κs = search needs
-
-enum-told : tie.Need-enum-told
-enum-told c = search needs
-
-enum-told-2 : tie.Need-enum-told-2
-enum-told-2 c = search needs
-
-enum-told-3 : tie.Need-enum-told-3
-enum-told-3 c = search needs
-
-enum-told-4 : tie.Need-enum-told-4
-enum-told-4 c = search needs
-
 returns : tie.Need-returns
 unfolding algsCommand
 returns c = ap (algsCommand _ _) (sym (c .enum-told .given .1) ∙ c .before .before .algs-argument .ensures)
@@ -40,11 +25,11 @@ pub algs-command-spec : {M : Type 1} → statement M
 algs-command-spec =
     tie.close
     (tie.spec
-    algs-argument-requires
-    enum-told
-    enum-told-2
-    enum-told-3
-    enum-told-4
+    (λ c κs. search needs)
+    (λ c. search needs)
+    (λ c. search needs)
+    (λ c. search needs)
+    (λ c. search needs)
     returns
     returns-2
     returns-3

@@ -6,45 +6,6 @@ use borrow.Author.Needs.{needs}
 use Rattle.commands.proofs.command.Statement.{statement}
 use Rattle.commands.proofs.command.Tie as tie
 
-content-requires : tie.Need-content-requires
-content-requires c κs = search needs
-
-content-word-requires : tie.Need-content-word-requires
-content-word-requires c κs = search needs
-
-enum-told : tie.Need-enum-told
-enum-told c = search needs
-
-argument-requires : tie.Need-argument-requires
-argument-requires c κs = search needs
-
-epsv-command-requires : tie.Need-epsv-command-requires
-epsv-command-requires c κs = search needs
-
-enum-told-2 : tie.Need-enum-told-2
-enum-told-2 c = search needs
-
-argument-requires-2 : tie.Need-argument-requires-2
-argument-requires-2 c κs = search needs
-
-eprt-command-requires : tie.Need-eprt-command-requires
-eprt-command-requires c κs = search needs
-
-enum-told-3 : tie.Need-enum-told-3
-enum-told-3 c = search needs
-
-argument-requires-3 : tie.Need-argument-requires-3
-argument-requires-3 c κs = search needs
-
-algs-command-requires : tie.Need-algs-command-requires
-algs-command-requires c κs = search needs
-
-enum-told-4 : tie.Need-enum-told-4
-enum-told-4 c = search needs
-
-enum-told-5 : tie.Need-enum-told-5
-enum-told-5 c = search needs
-
 returns : tie.Need-returns
 unfolding wordCommand
 returns c =
@@ -82,19 +43,19 @@ pub command-spec : {M : Type 1} → statement M
 command-spec =
     tie.close
     (tie.spec
-    content-requires
-    content-word-requires
-    enum-told
-    argument-requires
-    epsv-command-requires
-    enum-told-2
-    argument-requires-2
-    eprt-command-requires
-    enum-told-3
-    argument-requires-3
-    algs-command-requires
-    enum-told-4
-    enum-told-5
+    (λ c κs. search needs)
+    (λ c κs. search needs)
+    (λ c. search needs)
+    (λ c κs. search needs)
+    (λ c κs. search needs)
+    (λ c. search needs)
+    (λ c κs. search needs)
+    (λ c κs. search needs)
+    (λ c. search needs)
+    (λ c κs. search needs)
+    (λ c κs. search needs)
+    (λ c. search needs)
+    (λ c. search needs)
     returns
     returns-2
     returns-3

@@ -6,21 +6,9 @@ use borrow.Author.Needs.{needs}
 use Rattle.commands.proofs.command_word.Statement.{statement}
 use Rattle.commands.proofs.command_word.Tie as tie
 
-slice-aggregate-alike : tie.Need-slice-aggregate-alike
-slice-aggregate-alike c = search needs
-
-alike-requires : tie.Need-alike-requires
-alike-requires c κs = search needs
-
 returns : tie.Need-returns
 unfolding commandWord
 returns c = chosen _ (c .before .alike .ensures) (c .if1 .taken) refl
-
-slice-aggregate-alike-2 : tie.Need-slice-aggregate-alike-2
-slice-aggregate-alike-2 c = search needs
-
-alike-requires-2 : tie.Need-alike-requires-2
-alike-requires-2 c κs = search needs
 
 returns-2 : tie.Need-returns-2
 unfolding commandWord
@@ -28,12 +16,6 @@ returns-2 c =
     let c₁ = c .before .before .before in
     passed _ (c₁ .before .alike .ensures) (c₁ .if1 .left)
     (chosen _ (c .before .alike2 .ensures) (c .if2 .taken) refl)
-
-slice-aggregate-alike-3 : tie.Need-slice-aggregate-alike-3
-slice-aggregate-alike-3 c = search needs
-
-alike-requires-3 : tie.Need-alike-requires-3
-alike-requires-3 c κs = search needs
 
 returns-3 : tie.Need-returns-3
 unfolding commandWord
@@ -43,12 +25,6 @@ returns-3 c =
     passed _ (c₁ .before .alike .ensures) (c₁ .if1 .left)
     (passed _ (c₂ .before .alike2 .ensures) (c₂ .if2 .left)
     (chosen _ (c .before .alike3 .ensures) (c .if3 .taken) refl))
-
-slice-aggregate-alike-4 : tie.Need-slice-aggregate-alike-4
-slice-aggregate-alike-4 c = search needs
-
-alike-requires-4 : tie.Need-alike-requires-4
-alike-requires-4 c κs = search needs
 
 returns-4 : tie.Need-returns-4
 unfolding commandWord
@@ -76,16 +52,16 @@ pub command-word-spec : {M : Type 1} → statement M
 command-word-spec =
     tie.close
     (tie.spec
-    slice-aggregate-alike
-    alike-requires
+    (λ c. search needs)
+    (λ c κs. search needs)
     returns
-    slice-aggregate-alike-2
-    alike-requires-2
+    (λ c. search needs)
+    (λ c κs. search needs)
     returns-2
-    slice-aggregate-alike-3
-    alike-requires-3
+    (λ c. search needs)
+    (λ c κs. search needs)
     returns-3
-    slice-aggregate-alike-4
-    alike-requires-4
+    (λ c. search needs)
+    (λ c κs. search needs)
     returns-4
     returns-5)

@@ -11,17 +11,11 @@ use Rattle.commands.proofs.content_word.Tie as tie
 returns : tie.Need-returns
 returns c = begins-short _ (c .if1 .taken)
 
-shared-slice-read-if3 : tie.Need-shared-slice-read-if3
-shared-slice-read-if3 c = search needs
-
 returns-2 : tie.Need-returns-2
 returns-2 c = begins-longer _ (c .before .before .if2 .taken) (c .if3 .taken)
 
 slice-aggregate-command-word : tie.Need-slice-aggregate-command-word
 slice-aggregate-command-word c = sym (length-take-le 4 (c .before .before .before .before .args .content .now) (c .before .before .if1 .left))
-
-command-word-requires : tie.Need-command-word-requires
-command-word-requires c κs = search needs
 
 returns-3 : tie.Need-returns-3
 returns-3 c =
@@ -32,8 +26,8 @@ content-word-spec =
     tie.close
     (tie.spec
     returns
-    shared-slice-read-if3
+    (λ c. search needs)
     returns-2
     slice-aggregate-command-word
-    command-word-requires
+    (λ c κs. search needs)
     returns-3)

@@ -10,15 +10,6 @@ use Rattle.commands.proofs.eprt_command.Tie as tie
 returns : tie.Need-returns
 returns c = passed _ refl (not-true _ (c .if1 .taken)) refl
 
-eprt-argument-requires : tie.Need-eprt-argument-requires
-eprt-argument-requires c κs = search needs
-
-enum-known-port : tie.Need-enum-known-port
-enum-known-port c = search needs
-
-enum-told : tie.Need-enum-told
-enum-told c = search needs
-
 returns-2 : tie.Need-returns-2
 unfolding eprtCommand
 returns-2 c =
@@ -34,4 +25,4 @@ returns-3 c =
 pub eprt-command-spec : {M : Type 1} → statement M
 eprt-command-spec =
     tie.close
-    (tie.spec returns eprt-argument-requires enum-known-port enum-told returns-2 returns-3)
+    (tie.spec returns (λ c κs. search needs) (λ c. search needs) (λ c. search needs) returns-2 returns-3)

@@ -12,9 +12,6 @@ use Rattle.commands.proofs.epsv_argument.Tie as tie
 returns : tie.Need-returns
 returns c = epsv-empty _ (c .if1 .taken)
 
-digits-end-requires : tie.Need-digits-end-requires
-digits-end-requires c κs = search needs
-
 protocol-requires : tie.Need-protocol-requires
 protocol-requires c κs = (omega arith, every-reached digit _ _ (c .before .digits-end .ensures) (omega arith))
 
@@ -22,12 +19,6 @@ returns-2 : tie.Need-returns-2
 returns-2 c =
     epsv-digits _ _ _ (c .before .before .before .if1 .left) (c .before .before .digits-end .ensures) (c .before .if2 .taken)
     (c .protocol .ensures)
-
-slice-aggregate-alike : tie.Need-slice-aggregate-alike
-slice-aggregate-alike c = search needs
-
-alike-requires : tie.Need-alike-requires
-alike-requires c κs = search needs
 
 returns-3 : tie.Need-returns-3
 returns-3 c =
@@ -46,10 +37,10 @@ epsv-argument-spec =
     tie.close
     (tie.spec
     returns
-    digits-end-requires
+    (λ c κs. search needs)
     protocol-requires
     returns-2
-    slice-aggregate-alike
-    alike-requires
+    (λ c. search needs)
+    (λ c κs. search needs)
     returns-3
     returns-4)

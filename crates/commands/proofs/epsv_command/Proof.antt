@@ -10,21 +10,6 @@ use Rattle.commands.proofs.epsv_command.Tie as tie
 returns : tie.Need-returns
 returns c = passed _ refl (not-true _ (c .if1 .taken)) refl
 
-epsv-argument-requires : tie.Need-epsv-argument-requires
-epsv-argument-requires c κs = search needs
-
-enum-told : tie.Need-enum-told
-enum-told c = search needs
-
-enum-told-2 : tie.Need-enum-told-2
-enum-told-2 c = search needs
-
-enum-told-3 : tie.Need-enum-told-3
-enum-told-3 c = search needs
-
-enum-told-4 : tie.Need-enum-told-4
-enum-told-4 c = search needs
-
 returns-2 : tie.Need-returns-2
 unfolding epsvCommand
 returns-2 c =
@@ -54,11 +39,11 @@ epsv-command-spec =
     tie.close
     (tie.spec
     returns
-    epsv-argument-requires
-    enum-told
-    enum-told-2
-    enum-told-3
-    enum-told-4
+    (λ c κs. search needs)
+    (λ c. search needs)
+    (λ c. search needs)
+    (λ c. search needs)
+    (λ c. search needs)
     returns-2
     returns-3
     returns-4

@@ -12,15 +12,6 @@ use borrow.Author.Needs.{needs}
 use Rattle.commands.proofs.is_plain.Statement.{statement}
 use Rattle.commands.proofs.is_plain.Tie as tie
 
-content-requires : tie.Need-content-requires
-content-requires c κs = search needs
-
-content-word-requires : tie.Need-content-word-requires
-content-word-requires c κs = search needs
-
-enum-told : tie.Need-enum-told
-enum-told c = search needs
-
 returns : tie.Need-returns
 unfolding isOther
 returns c =
@@ -41,4 +32,4 @@ returns-2 c =
 
 pub is-plain-spec : {M : Type 1} → statement M
 is-plain-spec =
-    tie.close (tie.spec content-requires content-word-requires enum-told returns returns-2)
+    tie.close (tie.spec (λ c κs. search needs) (λ c κs. search needs) (λ c. search needs) returns returns-2)

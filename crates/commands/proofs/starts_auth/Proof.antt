@@ -13,12 +13,6 @@ returns c = auth-short _ (c .if1 .taken)
 slice-aggregate-alike : tie.Need-slice-aggregate-alike
 slice-aggregate-alike c = sym (length-take-le 5 (c .before .before .before .args .line .now) (c .before .if1 .left))
 
-slice-aggregate-alike-2 : tie.Need-slice-aggregate-alike-2
-slice-aggregate-alike-2 c = search needs
-
-alike-requires : tie.Need-alike-requires
-alike-requires c κs = search needs
-
 returns-2 : tie.Need-returns-2
 unfolding startsAuth
 returns-2 c = c .alike .ensures
@@ -26,4 +20,4 @@ returns-2 c = c .alike .ensures
 pub starts-auth-spec : {M : Type 1} → statement M
 starts-auth-spec =
     tie.close
-    (tie.spec returns slice-aggregate-alike slice-aggregate-alike-2 alike-requires returns-2)
+    (tie.spec returns slice-aggregate-alike (λ c. search needs) (λ c κs. search needs) returns-2)

@@ -6,17 +6,11 @@ use Rattle.octets.proofs.Choices.{chosen, passed}
 use Rattle.downstream.proofs.flow_reply.Statement.{statement}
 use Rattle.downstream.proofs.flow_reply.Tie as tie
 
-flowing-line-requires : tie.Need-flowing-line-requires
-flowing-line-requires c κs = search needs
-
 returns : tie.Need-returns
 returns c = chosen _ refl (eq-eqb _ _ (c .before .if1 .taken)) (c .flowing-line .ensures)
-
-unremoved-requires : tie.Need-unremoved-requires
-unremoved-requires c κs = search needs
 
 returns-2 : tie.Need-returns-2
 returns-2 c = passed _ refl (ne-eqb _ _ (c .before .if1 .left)) (c .unremoved .ensures)
 
 pub flow-reply-spec : {M : Type 1} → statement M
-flow-reply-spec = tie.close (tie.spec flowing-line-requires returns unremoved-requires returns-2)
+flow-reply-spec = tie.close (tie.spec (λ c κs. search needs) returns (λ c κs. search needs) returns-2)

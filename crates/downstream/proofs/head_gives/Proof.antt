@@ -4,15 +4,6 @@ use Rattle.downstream.specs.Downstream.{headEffect}
 use Rattle.downstream.proofs.head_gives.Statement.{statement}
 use Rattle.downstream.proofs.head_gives.Tie as tie
 
-enum-told : tie.Need-enum-told
-enum-told c = search needs
-
-enum-known-first : tie.Need-enum-known-first
-enum-known-first c = search needs
-
-kind-gives-requires : tie.Need-kind-gives-requires
-kind-gives-requires c κs = search needs
-
 returns : tie.Need-returns
 unfolding headEffect
 returns c = search needs
@@ -23,4 +14,4 @@ returns-2 c = cc
 
 pub head-gives-spec : {M : Type 1} → statement M
 head-gives-spec =
-    tie.close (tie.spec enum-told enum-known-first kind-gives-requires returns returns-2)
+    tie.close (tie.spec (λ c. search needs) (λ c. search needs) (λ c κs. search needs) returns returns-2)

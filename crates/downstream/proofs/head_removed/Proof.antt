@@ -5,15 +5,6 @@ use Rattle.downstream.specs.Downstream.{headRemoved}
 use Rattle.downstream.proofs.head_removed.Statement.{statement}
 use Rattle.downstream.proofs.head_removed.Tie as tie
 
-enum-told : tie.Need-enum-told
-enum-told c = search needs
-
-enum-known-first : tie.Need-enum-known-first
-enum-known-first c = search needs
-
-kind-removed-requires : tie.Need-kind-removed-requires
-kind-removed-requires c κs = search needs
-
 returns : tie.Need-returns
 unfolding headRemoved
 returns c = search needs
@@ -24,4 +15,4 @@ returns-2 c = c .kind-removed .ensures ∙ ap headRemoved (sym (c .before .befor
 
 pub head-removed-spec : {M : Type 1} → statement M
 head-removed-spec =
-    tie.close (tie.spec enum-told enum-known-first kind-removed-requires returns returns-2)
+    tie.close (tie.spec (λ c. search needs) (λ c. search needs) (λ c κs. search needs) returns returns-2)

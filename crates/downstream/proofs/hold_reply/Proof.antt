@@ -7,22 +7,10 @@ use Rattle.downstream.specs.Downstream.{wholeLine, replyEffect}
 use Rattle.downstream.proofs.hold_reply.Statement.{statement}
 use Rattle.downstream.proofs.hold_reply.Tie as tie
 
-first-octets-requires : tie.Need-first-octets-requires
-first-octets-requires c κs = search needs
-
-content-requires : tie.Need-content-requires
-content-requires c κs = search needs
-
-whole-line-requires : tie.Need-whole-line-requires
-whole-line-requires c κs = search needs
-
 returns : tie.Need-returns
 unfolding replyEffect
 returns c = rw (eq-eqb _ _ (c .before .before .before .if1 .taken))
     (c .whole-line .ensures ∙ ap (wholeLine _ _) (c .before .content .ensures ∙ ap content (c .before .before .first-octets .ensures)))
-
-reply-octet-requires : tie.Need-reply-octet-requires
-reply-octet-requires c κs = search needs
 
 returns-2 : tie.Need-returns-2
 unfolding replyEffect
@@ -32,9 +20,9 @@ pub hold-reply-spec : {M : Type 1} → statement M
 hold-reply-spec =
     tie.close
     (tie.spec
-    first-octets-requires
-    content-requires
-    whole-line-requires
+    (λ c κs. search needs)
+    (λ c κs. search needs)
+    (λ c κs. search needs)
     returns
-    reply-octet-requires
+    (λ c κs. search needs)
     returns-2)

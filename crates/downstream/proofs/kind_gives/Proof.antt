@@ -4,21 +4,6 @@ use Rattle.downstream.specs.Downstream.{kindEffect}
 use Rattle.downstream.proofs.kind_gives.Statement.{statement}
 use Rattle.downstream.proofs.kind_gives.Tie as tie
 
-enum-told : tie.Need-enum-told
-enum-told c = search needs
-
-enum-told-2 : tie.Need-enum-told-2
-enum-told-2 c = search needs
-
-passive-gives-requires : tie.Need-passive-gives-requires
-passive-gives-requires c κs = search needs
-
-enum-told-3 : tie.Need-enum-told-3
-enum-told-3 c = search needs
-
-enum-told-4 : tie.Need-enum-told-4
-enum-told-4 c = search needs
-
 returns : tie.Need-returns
 unfolding kindEffect
 returns c = search needs
@@ -39,11 +24,11 @@ pub kind-gives-spec : {M : Type 1} → statement M
 kind-gives-spec =
     tie.close
     (tie.spec
-    enum-told
-    enum-told-2
-    passive-gives-requires
-    enum-told-3
-    enum-told-4
+    (λ c. search needs)
+    (λ c. search needs)
+    (λ c κs. search needs)
+    (λ c. search needs)
+    (λ c. search needs)
     returns
     returns-2
     returns-3

@@ -5,18 +5,6 @@ use Rattle.downstream.specs.Downstream.{lineGives}
 use Rattle.downstream.proofs.line_gives.Statement.{statement}
 use Rattle.downstream.proofs.line_gives.Tie as tie
 
-enum-told : tie.Need-enum-told
-enum-told c = search needs
-
-enum-told-2 : tie.Need-enum-told-2
-enum-told-2 c = search needs
-
-enum-told-3 : tie.Need-enum-told-3
-enum-told-3 c = search needs
-
-head-gives-requires : tie.Need-head-gives-requires
-head-gives-requires c κs = search needs
-
 returns : tie.Need-returns
 unfolding lineGives choose
 returns c = search needs
@@ -37,10 +25,10 @@ pub line-gives-spec : {M : Type 1} → statement M
 line-gives-spec =
     tie.close
     (tie.spec
-    enum-told
-    enum-told-2
-    enum-told-3
-    head-gives-requires
+    (λ c. search needs)
+    (λ c. search needs)
+    (λ c. search needs)
+    (λ c κs. search needs)
     returns
     returns-2
     returns-3

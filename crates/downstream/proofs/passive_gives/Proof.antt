@@ -5,15 +5,6 @@ use Rattle.downstream.specs.Downstream.{passiveEffect}
 use Rattle.downstream.proofs.passive_gives.Statement.{statement}
 use Rattle.downstream.proofs.passive_gives.Tie as tie
 
-passive-reply-requires : tie.Need-passive-reply-requires
-passive-reply-requires c κs = search needs
-
-enum-known-port : tie.Need-enum-known-port
-enum-known-port c = search needs
-
-enum-told : tie.Need-enum-told
-enum-told c = search needs
-
 returns : tie.Need-returns
 unfolding passiveEffect
 returns c = ap passiveEffect (sym (c .before .port .given .1) ∙ c .before .before .before .passive-reply .ensures)
@@ -24,4 +15,4 @@ returns-2 c = ap passiveEffect (sym (c .enum-told .given .1) ∙ c .before .befo
 
 pub passive-gives-spec : {M : Type 1} → statement M
 passive-gives-spec =
-    tie.close (tie.spec passive-reply-requires enum-known-port enum-told returns returns-2)
+    tie.close (tie.spec (λ c κs. search needs) (λ c. search needs) (λ c. search needs) returns returns-2)

@@ -6,30 +6,6 @@ use Rattle.downstream.proofs.Places.{server-place, server-flowing}
 use Rattle.downstream.proofs.server_effect.Statement.{statement}
 use Rattle.downstream.proofs.server_effect.Tie as tie
 
-enum-told : tie.Need-enum-told
-enum-told c = search needs
-
-hold-reply-requires : tie.Need-hold-reply-requires
-hold-reply-requires c κs = search needs
-
-enum-told-2 : tie.Need-enum-told-2
-enum-told-2 c = search needs
-
-flow-reply-requires : tie.Need-flow-reply-requires
-flow-reply-requires c κs = search needs
-
-enum-told-3 : tie.Need-enum-told-3
-enum-told-3 c = search needs
-
-unremoved-requires : tie.Need-unremoved-requires
-unremoved-requires c κs = search needs
-
-enum-told-4 : tie.Need-enum-told-4
-enum-told-4 c = search needs
-
-unremoved-requires-2 : tie.Need-unremoved-requires-2
-unremoved-requires-2 c κs = search needs
-
 returns : tie.Need-returns
 returns c = c .hold-reply .ensures ∙ server-place _ _ _ _ _ (c .before .enum-told .given .1)
 
@@ -48,14 +24,14 @@ pub server-effect-spec : {M : Type 1} → statement M
 server-effect-spec =
     tie.close
     (tie.spec
-    enum-told
-    hold-reply-requires
-    enum-told-2
-    flow-reply-requires
-    enum-told-3
-    unremoved-requires
-    enum-told-4
-    unremoved-requires-2
+    (λ c. search needs)
+    (λ c κs. search needs)
+    (λ c. search needs)
+    (λ c κs. search needs)
+    (λ c. search needs)
+    (λ c κs. search needs)
+    (λ c. search needs)
+    (λ c κs. search needs)
     returns
     returns-2
     returns-3

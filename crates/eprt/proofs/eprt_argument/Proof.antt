@@ -11,40 +11,22 @@ use Rattle.eprt.proofs.eprt_argument.Tie as tie
 returns : tie.Need-returns
 returns c = sym (eprt-empty _ _ (c .if1 .taken))
 
-shared-slice-read-delimiter : tie.Need-shared-slice-read-delimiter
-shared-slice-read-delimiter c = search needs
-
 returns-2 : tie.Need-returns-2
 returns-2 c = sym (eprt-not _ _ (omega arith) (is-below 33 126 _ (c .if2 .taken)))
 
 returns-3 : tie.Need-returns-3
 returns-3 c = sym (eprt-not _ _ (omega arith) (is-above 33 126 _ (c .if3 .taken)))
 
-find-requires : tie.Need-find-requires
-find-requires c κs = search needs
-
 returns-4 : tie.Need-returns-4
 returns-4 c =
     let fit = is-within 33 126 _ (c .before .before .before .if2 .left) (c .before .before .if3 .left) in
     sym (no-second _ _ (omega arith) fit _ (c .before .find .ensures) (c .if4 .taken))
-
-add-address : tie.Need-add-address
-add-address c = search needs
-
-find-requires-2 : tie.Need-find-requires-2
-find-requires-2 c κs = search needs
 
 returns-5 : tie.Need-returns-5
 returns-5 c =
     let at-if3 = c .before .before .before .before in
     let fit = is-within 33 126 _ (at-if3 .before .if2 .left) (at-if3 .if3 .left) in
     sym (no-third _ _ (omega arith) fit _ (c .before .before .before .find .ensures) (c .before .before .if4 .left) _ (c .before .find2 .ensures) (c .if5 .taken))
-
-add-port : tie.Need-add-port
-add-port c = search needs
-
-find-requires-3 : tie.Need-find-requires-3
-find-requires-3 c κs = search needs
 
 add-if6 : tie.Need-add-if6
 add-if6 c = omega (arith, run-inside _ _ _ _ (omega arith) (c .find3 .ensures))
@@ -54,36 +36,6 @@ returns-6 c =
     let at-if3 = c .before .before .before .before .before .before in
     let fit = is-within 33 126 _ (at-if3 .before .if2 .left) (at-if3 .if3 .left) in
     sym (no-end _ _ (omega arith) fit _ (c .before .before .before .before .before .find .ensures) (c .before .before .before .before .if4 .left) _ (c .before .before .before .find2 .ensures) (c .before .before .if5 .left) _ (c .before .find3 .ensures) (c .if6 .taken))
-
-sub-fields-argument : tie.Need-sub-fields-argument
-sub-fields-argument c = search needs
-
-part-fields-argument-start : tie.Need-part-fields-argument-start
-part-fields-argument-start c = search needs
-
-part-fields-argument-end : tie.Need-part-fields-argument-end
-part-fields-argument-end c = search needs
-
-sub-fields-argument-2 : tie.Need-sub-fields-argument-2
-sub-fields-argument-2 c = search needs
-
-part-fields-argument-start-2 : tie.Need-part-fields-argument-start-2
-part-fields-argument-start-2 c = search needs
-
-part-fields-argument-end-2 : tie.Need-part-fields-argument-end-2
-part-fields-argument-end-2 c = search needs
-
-sub-fields-argument-3 : tie.Need-sub-fields-argument-3
-sub-fields-argument-3 c = search needs
-
-part-fields-argument-start-3 : tie.Need-part-fields-argument-start-3
-part-fields-argument-start-3 c = search needs
-
-part-fields-argument-end-3 : tie.Need-part-fields-argument-end-3
-part-fields-argument-end-3 c = search needs
-
-fields-argument-requires : tie.Need-fields-argument-requires
-fields-argument-requires c κs = search needs
 
 returns-7 : tie.Need-returns-7
 returns-7 c =
@@ -98,26 +50,26 @@ eprt-argument-spec =
     tie.close
     (tie.spec
     returns
-    shared-slice-read-delimiter
+    (λ c. search needs)
     returns-2
     returns-3
-    find-requires
+    (λ c κs. search needs)
     returns-4
-    add-address
-    find-requires-2
+    (λ c. search needs)
+    (λ c κs. search needs)
     returns-5
-    add-port
-    find-requires-3
+    (λ c. search needs)
+    (λ c κs. search needs)
     add-if6
     returns-6
-    sub-fields-argument
-    part-fields-argument-start
-    part-fields-argument-end
-    sub-fields-argument-2
-    part-fields-argument-start-2
-    part-fields-argument-end-2
-    sub-fields-argument-3
-    part-fields-argument-start-3
-    part-fields-argument-end-3
-    fields-argument-requires
+    (λ c. search needs)
+    (λ c. search needs)
+    (λ c. search needs)
+    (λ c. search needs)
+    (λ c. search needs)
+    (λ c. search needs)
+    (λ c. search needs)
+    (λ c. search needs)
+    (λ c. search needs)
+    (λ c κs. search needs)
     returns-7)

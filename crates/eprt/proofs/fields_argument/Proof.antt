@@ -12,35 +12,17 @@ use Rattle.eprt.proofs.fields_argument.Tie as tie
 returns : tie.Need-returns
 returns c = sym (other-protocol _ _ _ _ (not-two _ (c .if1 .taken)))
 
-shared-slice-read-if2 : tie.Need-shared-slice-read-if2
-shared-slice-read-if2 c = search needs
-
 returns-2 : tie.Need-returns-2
 returns-2 c = sym (other-protocol _ _ _ _ (other-octet _ (c .before .before .if1 .left) (c .if2 .taken)))
-
-ipv6-requires : tie.Need-ipv6-requires
-ipv6-requires c κs = search needs
 
 returns-3 : tie.Need-returns-3
 returns-3 c =
     sym (other-address _ _ _ _ (no-address _ _ _ (c .before .before .ipv6 .ensures) (not-true _ (c .if3 .taken))))
 
-same-address-requires : tie.Need-same-address-requires
-same-address-requires c κs = search needs
-
 returns-4 : tie.Need-returns-4
 returns-4 c =
     let read = read-address _ _ _ (c .before .before .before .before .before .ipv6 .ensures) (not-false _ (c .before .before .before .if3 .left)) in
     sym (other-address _ _ _ _ (read ∙ sym (c .before .same-address .ensures) ∙ not-true _ (c .if4 .taken)))
-
-read-number-requires : tie.Need-read-number-requires
-read-number-requires c κs = search needs
-
-enum-known-value : tie.Need-enum-known-value
-enum-known-value c = search needs
-
-enum-told : tie.Need-enum-told
-enum-told c = search needs
 
 returns-5 : tie.Need-returns-5
 unfolding portArgument
@@ -72,15 +54,15 @@ fields-argument-spec =
     tie.close
     (tie.spec
     returns
-    shared-slice-read-if2
+    (λ c. search needs)
     returns-2
-    ipv6-requires
+    (λ c κs. search needs)
     returns-3
-    same-address-requires
+    (λ c κs. search needs)
     returns-4
-    read-number-requires
-    enum-known-value
-    enum-told
+    (λ c κs. search needs)
+    (λ c. search needs)
+    (λ c. search needs)
     returns-5
     cast-t14
     returns-6)

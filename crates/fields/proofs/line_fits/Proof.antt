@@ -14,24 +14,6 @@ returns c =
     let a = c .before .before .before .args in
     line-refused (a .size) (a .at) (a .n) (a .taken) (a .number) (a .to-server .now) (a .to-client .now) (omega arith)
 
-decimal-length-requires : tie.Need-decimal-length-requires
-decimal-length-requires c κs = search needs
-
-decimal-length-requires-2 : tie.Need-decimal-length-requires-2
-decimal-length-requires-2 c κs = search needs
-
-add-numbers : tie.Need-add-numbers
-add-numbers c = search needs
-
-decimal-length-requires-3 : tie.Need-decimal-length-requires-3
-decimal-length-requires-3 c κs = search needs
-
-add-numbers-2 : tie.Need-add-numbers-2
-add-numbers-2 c = search needs
-
-add-numbers-3 : tie.Need-add-numbers-3
-add-numbers-3 c = search needs
-
 returns-2 : tie.Need-returns-2
 returns-2 c =
     let a = c .before .before .before .before .before .before .before .args in
@@ -39,18 +21,6 @@ returns-2 c =
     let two = c .before .before .decimal-length2 .ensures .0 in
     let three = c .before .decimal-length3 .ensures .0 in
     line-refused (a .size) (a .at) (a .n) (a .taken) (a .number) (a .to-server .now) (a .to-client .now) (omega arith)
-
-sub-room-after : tie.Need-sub-room-after
-sub-room-after c = search needs
-
-room-after-requires : tie.Need-room-after-requires
-room-after-requires c κs = search needs
-
-enum-known-first : tie.Need-enum-known-first
-enum-known-first c = search needs
-
-enum-told : tie.Need-enum-told
-enum-told c = search needs
 
 returns-3 : tie.Need-returns-3
 returns-3 c =
@@ -62,15 +32,6 @@ returns-3 c =
     let within = c .before .before .before .before .before .before .before .if1 .left in
     let full = has-none (a .size - a .at - (c .before .before .before .before .before .before .decimal-length .result + c .before .before .before .before .before .decimal-length2 .result + c .before .before .before .before .decimal-length3 .result + 5)) (length (field (a .to-server .now))) (sym (c .before .before .room-after .ensures) ∙ c .enum-told .given .1) in
     line-refused (a .size) (a .at) (a .n) (a .taken) (a .number) (a .to-server .now) (a .to-client .now) (omega arith)
-
-room-after-requires-2 : tie.Need-room-after-requires-2
-room-after-requires-2 c κs = search needs
-
-enum-told-2 : tie.Need-enum-told-2
-enum-told-2 c = search needs
-
-enum-told-3 : tie.Need-enum-told-3
-enum-told-3 c = search needs
 
 returns-4 : tie.Need-returns-4
 returns-4 c =
@@ -101,20 +62,20 @@ line-fits-spec =
     tie.close
     (tie.spec
     returns
-    decimal-length-requires
-    decimal-length-requires-2
-    add-numbers
-    decimal-length-requires-3
-    add-numbers-2
-    add-numbers-3
+    (λ c κs. search needs)
+    (λ c κs. search needs)
+    (λ c. search needs)
+    (λ c κs. search needs)
+    (λ c. search needs)
+    (λ c. search needs)
     returns-2
-    sub-room-after
-    room-after-requires
-    enum-known-first
-    enum-told
+    (λ c. search needs)
+    (λ c κs. search needs)
+    (λ c. search needs)
+    (λ c. search needs)
     returns-3
-    room-after-requires-2
-    enum-told-2
-    enum-told-3
+    (λ c κs. search needs)
+    (λ c. search needs)
+    (λ c. search needs)
     returns-4
     returns-5)

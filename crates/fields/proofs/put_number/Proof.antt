@@ -5,15 +5,6 @@ use borrow.Author.Needs.{needs}
 use Rattle.fields.proofs.put_number.Statement.{statement}
 use Rattle.fields.proofs.put_number.Tie as tie
 
-put-decimal-requires : tie.Need-put-decimal-requires
-put-decimal-requires c κs = search needs
-
-put-requires : tie.Need-put-requires
-put-requires c κs = search needs
-
-same-length : tie.Need-same-length
-same-length c = search needs
-
 returns : tie.Need-returns
 returns c =
     let d = c .before .before .before .before .before .before in
@@ -21,4 +12,4 @@ returns c =
     joined (a .out .now) (a .at) (decimal (a .n)) (a .after .now) (λ _. d .put-decimal .ensures) (λ _. c .before .before .put .ensures)
 
 pub put-number-spec : {M : Type 1} → statement M
-put-number-spec = tie.close (tie.spec put-decimal-requires put-requires same-length returns)
+put-number-spec = tie.close (tie.spec (λ c κs. search needs) (λ c κs. search needs) (λ c. search needs) returns)

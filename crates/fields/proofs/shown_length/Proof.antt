@@ -5,9 +5,6 @@ use borrow.Author.Needs.{needs}
 use Rattle.fields.proofs.shown_length.Statement.{statement}
 use Rattle.fields.proofs.shown_length.Tie as tie
 
-stands-as-itself-requires : tie.Need-stands-as-itself-requires
-stands-as-itself-requires c κs = search needs
-
 returns : tie.Need-returns
 returns c = rw (as-itself (c .before .before .args .x) (sym (c .before .stands-as-itself .ensures) ∙ c .if1 .taken))
 
@@ -15,4 +12,4 @@ returns-2 : tie.Need-returns-2
 returns-2 c = rw (as-hex (c .before .before .args .x) (sym (c .before .stands-as-itself .ensures) ∙ c .if1 .left))
 
 pub shown-length-spec : {M : Type 1} → statement M
-shown-length-spec = tie.close (tie.spec stands-as-itself-requires returns returns-2)
+shown-length-spec = tie.close (tie.spec (λ c κs. search needs) returns returns-2)

@@ -5,23 +5,8 @@ use Rattle.files.proofs.Tables.{zero-wrong, good-arrival, good-end, goo
 use Rattle.files.proofs.good_entry.Statement.{statement}
 use Rattle.files.proofs.good_entry.Tie as tie
 
-add-if1 : tie.Need-add-if1
-add-if1 c = search needs
-
-shared-slice-read-if1 : tie.Need-shared-slice-read-if1
-shared-slice-read-if1 c = search needs
-
 returns : tie.Need-returns
 returns c = let a = c .before .before .before .args in sym (zero-wrong (a .file .now) (a .at) (c .if1 .taken))
-
-shared-slice-read-kind : tie.Need-shared-slice-read-kind
-shared-slice-read-kind c = search needs
-
-add-pair-at : tie.Need-add-pair-at
-add-pair-at c = search needs
-
-pair-at-requires : tie.Need-pair-at-requires
-pair-at-requires c κs = search needs
 
 returns-2 : tie.Need-returns-2
 returns-2 c =
@@ -51,12 +36,12 @@ pub good-entry-spec : {M : Type 1} → statement M
 good-entry-spec =
     tie.close
     (tie.spec
-    add-if1
-    shared-slice-read-if1
+    (λ c. search needs)
+    (λ c. search needs)
     returns
-    shared-slice-read-kind
-    add-pair-at
-    pair-at-requires
+    (λ c. search needs)
+    (λ c. search needs)
+    (λ c κs. search needs)
     returns-2
     returns-3
     returns-4

@@ -10,27 +10,6 @@ returns c =
     let a = c .before .before .args in
     (past-end (a .file .now) (a .at) (c .if1 .taken), omega arith)
 
-octet-at-requires : tie.Need-octet-at-requires
-octet-at-requires c κs = search needs
-
-cast-result : tie.Need-cast-result
-cast-result c = search needs
-
-mul-result : tie.Need-mul-result
-mul-result c = search needs
-
-add-octet-at : tie.Need-add-octet-at
-add-octet-at c = search needs
-
-octet-at-requires-2 : tie.Need-octet-at-requires-2
-octet-at-requires-2 c κs = search needs
-
-cast-result-2 : tie.Need-cast-result-2
-cast-result-2 c = search needs
-
-add-result : tie.Need-add-result
-add-result c = search needs
-
 returns-2 : tie.Need-returns-2
 returns-2 c =
     let high = c .before .octet-at in
@@ -42,11 +21,11 @@ pair-at-spec =
     tie.close
     (tie.spec
     returns
-    octet-at-requires
-    cast-result
-    mul-result
-    add-octet-at
-    octet-at-requires-2
-    cast-result-2
-    add-result
+    (λ c κs. search needs)
+    (λ c. search needs)
+    (λ c. search needs)
+    (λ c. search needs)
+    (λ c κs. search needs)
+    (λ c. search needs)
+    (λ c. search needs)
     returns-2)

@@ -10,42 +10,6 @@ use Rattle.gives.proofs.Texts.{text-of}
 use Rattle.gives.proofs.gives_length.Statement.{statement}
 use Rattle.gives.proofs.gives_length.Tie as tie
 
-enum-told : tie.Need-enum-told
-enum-told c = search needs
-
-enum-told-2 : tie.Need-enum-told-2
-enum-told-2 c = search needs
-
-enum-told-3 : tie.Need-enum-told-3
-enum-told-3 c = search needs
-
-enum-told-4 : tie.Need-enum-told-4
-enum-told-4 c = search needs
-
-passed-length-requires : tie.Need-passed-length-requires
-passed-length-requires c κs = search needs
-
-add-result : tie.Need-add-result
-add-result c = search needs
-
-enum-told-5 : tie.Need-enum-told-5
-enum-told-5 c = search needs
-
-pasv-length-requires : tie.Need-pasv-length-requires
-pasv-length-requires c κs = search needs
-
-enum-known-gives : tie.Need-enum-known-gives
-enum-known-gives c = search needs
-
-port-line-length-requires : tie.Need-port-line-length-requires
-port-line-length-requires c κs = search needs
-
-enum-known-gives-2 : tie.Need-enum-known-gives-2
-enum-known-gives-2 c = search needs
-
-extended-passive-length-requires : tie.Need-extended-passive-length-requires
-extended-passive-length-requires c κs = search needs
-
 returns : tie.Need-returns
 unfolding givesText
 returns c = ap length (text-of _ _ _ (c .enum-told .given .1))
@@ -81,18 +45,18 @@ pub gives-length-spec : {M : Type 1} → statement M
 gives-length-spec =
     tie.close
     (tie.spec
-    enum-told
-    enum-told-2
-    enum-told-3
-    enum-told-4
-    passed-length-requires
-    add-result
-    enum-told-5
-    pasv-length-requires
-    enum-known-gives
-    port-line-length-requires
-    enum-known-gives-2
-    extended-passive-length-requires
+    (λ c. search needs)
+    (λ c. search needs)
+    (λ c. search needs)
+    (λ c. search needs)
+    (λ c κs. search needs)
+    (λ c. search needs)
+    (λ c. search needs)
+    (λ c κs. search needs)
+    (λ c. search needs)
+    (λ c κs. search needs)
+    (λ c. search needs)
+    (λ c κs. search needs)
     returns
     returns-2
     returns-3

@@ -23,22 +23,10 @@ returns c =
     let start = c .before .before .before in
     no-room (start .args .out .now) (start .args .at) (text start) (omega (arith, long start))
 
-sub-if2 : tie.Need-sub-if2
-sub-if2 c = search needs
-
 returns-2 : tie.Need-returns-2
 returns-2 c =
     let start = c .before .before .before .before .before in
     no-room (start .args .out .now) (start .args .at) (text start) (omega (arith, long start, c .before .passed-length .ensures))
-
-put-passed-requires : tie.Need-put-passed-requires
-put-passed-requires c κs = search needs
-
-put-octet-requires : tie.Need-put-octet-requires
-put-octet-requires c κs = search needs
-
-same-length : tie.Need-same-length
-same-length c = search needs
 
 returns-3 : tie.Need-returns-3
 returns-3 c =
@@ -52,4 +40,4 @@ returns-3 c =
 pub put-line-spec : {M : Type 1} → statement M
 put-line-spec =
     tie.close
-    (tie.spec returns sub-if2 (λ c κs. search needs) returns-2 put-passed-requires put-octet-requires same-length returns-3)
+    (tie.spec returns (λ c. search needs) (λ c κs. search needs) returns-2 (λ c κs. search needs) (λ c κs. search needs) (λ c. search needs) returns-3)

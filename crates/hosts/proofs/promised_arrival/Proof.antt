@@ -8,21 +8,6 @@ use Rattle.hosts.proofs.Progress.{progress-promised}
 use Rattle.hosts.proofs.promised_arrival.Statement.{statement}
 use Rattle.hosts.proofs.promised_arrival.Tie as tie
 
-fashlemor-arrive-requires : tie.Need-fashlemor-arrive-requires
-fashlemor-arrive-requires c κs = search needs
-
-same-length : tie.Need-same-length
-same-length c = search needs
-
-same-length-2 : tie.Need-same-length-2
-same-length-2 c = search needs
-
-same-length-3 : tie.Need-same-length-3
-same-length-3 c = search needs
-
-same-length-4 : tie.Need-same-length-4
-same-length-4 c = search needs
-
 returns : tie.Need-returns
 unfolding outcomeAt
 returns c =
@@ -39,4 +24,4 @@ returns c =
     )
 
 pub promised-arrival-spec : {M : Type 1} → statement M
-promised-arrival-spec = tie.close (tie.spec fashlemor-arrive-requires same-length same-length-2 same-length-3 same-length-4 returns)
+promised-arrival-spec = tie.close (tie.spec (λ c κs. search needs) (λ c. search needs) (λ c. search needs) (λ c. search needs) (λ c. search needs) returns)

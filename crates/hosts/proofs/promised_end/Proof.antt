@@ -6,21 +6,6 @@ use Rattle.hosts.proofs.Promises.{call-promised}
 use Rattle.hosts.proofs.promised_end.Statement.{statement}
 use Rattle.hosts.proofs.promised_end.Tie as tie
 
-fashlemor-end-requires : tie.Need-fashlemor-end-requires
-fashlemor-end-requires c κs = search needs
-
-same-length : tie.Need-same-length
-same-length c = search needs
-
-same-length-2 : tie.Need-same-length-2
-same-length-2 c = search needs
-
-same-length-3 : tie.Need-same-length-3
-same-length-3 c = search needs
-
-same-length-4 : tie.Need-same-length-4
-same-length-4 c = search needs
-
 returns : tie.Need-returns
 unfolding outcomeAt
 returns c =
@@ -31,4 +16,4 @@ returns c =
     )
 
 pub promised-end-spec : {M : Type 1} → statement M
-promised-end-spec = tie.close (tie.spec fashlemor-end-requires same-length same-length-2 same-length-3 same-length-4 returns)
+promised-end-spec = tie.close (tie.spec (λ c κs. search needs) (λ c. search needs) (λ c. search needs) (λ c. search needs) (λ c. search needs) returns)

@@ -5,12 +5,6 @@ use Rattle.hosts.proofs.Promises.{offset-promised}
 use Rattle.hosts.proofs.promised_offset.Statement.{statement}
 use Rattle.hosts.proofs.promised_offset.Tie as tie
 
-fashlemor-offset-requires : tie.Need-fashlemor-offset-requires
-fashlemor-offset-requires c κs = search needs
-
-same-length : tie.Need-same-length
-same-length c = search needs
-
 returns : tie.Need-returns
 returns c =
     let a = c .before .before .before .before .before .before .args in
@@ -18,4 +12,4 @@ returns c =
     (e .0, (e .1, λ known room. offset-promised (sessionOf (a .image .now)) (a .direction) (a .out .now) (e .1) known room))
 
 pub promised-offset-spec : {M : Type 1} → statement M
-promised-offset-spec = tie.close (tie.spec fashlemor-offset-requires same-length returns)
+promised-offset-spec = tie.close (tie.spec (λ c κs. search needs) (λ c. search needs) returns)

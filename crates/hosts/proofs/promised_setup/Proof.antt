@@ -6,12 +6,6 @@ use Rattle.hosts.proofs.Promises.{fresh-promised}
 use Rattle.hosts.proofs.promised_setup.Statement.{statement}
 use Rattle.hosts.proofs.promised_setup.Tie as tie
 
-fashlemor-setup-requires : tie.Need-fashlemor-setup-requires
-fashlemor-setup-requires c κs = search needs
-
-same-length : tie.Need-same-length
-same-length c = search needs
-
 returns : tie.Need-returns
 returns c =
     let a = c .before .before .before .before .before .before .args in
@@ -20,4 +14,4 @@ returns c =
     (e .0, (e .1, λ done. fresh-promised (a .image .now) (a .setup .now) (e .0) (e .1) each done))
 
 pub promised-setup-spec : {M : Type 1} → statement M
-promised-setup-spec = tie.close (tie.spec fashlemor-setup-requires same-length returns)
+promised-setup-spec = tie.close (tie.spec (λ c κs. search needs) (λ c. search needs) returns)

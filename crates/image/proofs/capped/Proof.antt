@@ -6,9 +6,6 @@ use borrow.Author.Needs.{needs}
 use Rattle.image.proofs.capped.Statement.{statement}
 use Rattle.image.proofs.capped.Tie as tie
 
-cast-result : tie.Need-cast-result
-cast-result c = search needs
-
 returns : tie.Need-returns
 unfolding capped choose
 returns c = rw (le-leb _ _ (c .if1 .taken))
@@ -18,4 +15,4 @@ unfolding capped choose
 returns-2 c = rw (lt-leb _ _ (c .if1 .left))
 
 pub capped-spec : {M : Type 1} → statement M
-capped-spec = tie.close (tie.spec cast-result returns returns-2)
+capped-spec = tie.close (tie.spec (λ c. search needs) returns returns-2)

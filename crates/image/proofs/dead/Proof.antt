@@ -5,11 +5,8 @@ use borrow.Author.Needs.{needs}
 use Rattle.image.proofs.dead.Statement.{statement}
 use Rattle.image.proofs.dead.Tie as tie
 
-refused-setup-requires : tie.Need-refused-setup-requires
-refused-setup-requires c κs = search needs
-
 returns : tie.Need-returns
 returns c = ap (λ (p : Prepared). p .session) (c .before .refused-setup .ensures)
 
 pub dead-spec : {M : Type 1} → statement M
-dead-spec = tie.close (tie.spec refused-setup-requires returns)
+dead-spec = tie.close (tie.spec (λ c κs. search needs) returns)

@@ -10,27 +10,12 @@ use Rattle.rules.specs.Answers.{mostOwed}
 use Rattle.image.proofs.put_arrays.Statement.{statement}
 use Rattle.image.proofs.put_arrays.Tie as tie
 
-slice-aggregate-put : tie.Need-slice-aggregate-put
-slice-aggregate-put c = search needs
-
-put-requires : tie.Need-put-requires
-put-requires c κs = search needs
-
-slice-aggregate-put-2 : tie.Need-slice-aggregate-put-2
-slice-aggregate-put-2 c = search needs
-
-put-requires-2 : tie.Need-put-requires-2
-put-requires-2 c κs = search needs
-
 slice-aggregate-put-3 : tie.Need-slice-aggregate-put-3
 slice-aggregate-put-3 c =
     let start = c .before .before .before .before .before .before .before .before .before .before .before .before .before .before .before .before .before .before .before in
     let later = start .good .1 .1 .0 .1 .1 .1 in
     let size : length (start .args .session .kinds) ≡ mostOwed = search needs in
     sym size
-
-put-requires-3 : tie.Need-put-requires-3
-put-requires-3 c κs = search needs
 
 slice-aggregate-put-4 : tie.Need-slice-aggregate-put-4
 slice-aggregate-put-4 c =
@@ -39,21 +24,12 @@ slice-aggregate-put-4 c =
     let size : length (start .args .session .command) ≡ mostHeld = search needs in
     sym size
 
-put-requires-4 : tie.Need-put-requires-4
-put-requires-4 c κs = search needs
-
 slice-aggregate-put-5 : tie.Need-slice-aggregate-put-5
 slice-aggregate-put-5 c =
     let start = c .before .before .before .before .before .before .before .before .before .before .before .before .before .before .before .before .before .before .before .before .before .before .before .before .before .before .before .before .before in
     let later = start .good .1 .1 .0 .1 .1 .1 in
     let size : length (start .args .session .reply) ≡ mostHeld = search needs in
     sym size
-
-put-requires-5 : tie.Need-put-requires-5
-put-requires-5 c κs = search needs
-
-same-length : tie.Need-same-length
-same-length c = search needs
 
 returns : tie.Need-returns
 unfolding arraysOf
@@ -79,15 +55,15 @@ pub put-arrays-spec : {M : Type 1} → statement M
 put-arrays-spec =
     tie.close
     (tie.spec
-    slice-aggregate-put
-    put-requires
-    slice-aggregate-put-2
-    put-requires-2
+    (λ c. search needs)
+    (λ c κs. search needs)
+    (λ c. search needs)
+    (λ c κs. search needs)
     slice-aggregate-put-3
-    put-requires-3
+    (λ c κs. search needs)
     slice-aggregate-put-4
-    put-requires-4
+    (λ c κs. search needs)
     slice-aggregate-put-5
-    put-requires-5
-    same-length
+    (λ c κs. search needs)
+    (λ c. search needs)
     returns)

@@ -15,27 +15,6 @@ returns c =
     let size = image-length s (record { client = search needs; mapped = search needs; kinds = search needs; command = search needs; reply = search needs }) in
     no-room (a .image .now) 0 (imageOf s) (omega (arith, c .if1 .taken)) .1
 
-put-marks-requires : tie.Need-put-marks-requires
-put-marks-requires c κs = search needs
-
-capped-requires : tie.Need-capped-requires
-capped-requires c κs = search needs
-
-capped-requires-2 : tie.Need-capped-requires-2
-capped-requires-2 c κs = search needs
-
-capped-requires-3 : tie.Need-capped-requires-3
-capped-requires-3 c κs = search needs
-
-put-numbers-requires : tie.Need-put-numbers-requires
-put-numbers-requires c κs = search needs
-
-put-arrays-requires : tie.Need-put-arrays-requires
-put-arrays-requires c κs = search needs
-
-same-length : tie.Need-same-length
-same-length c = search needs
-
 returns-2 : tie.Need-returns-2
 unfolding imageOf marksOf numbersOf
 returns-2 c =
@@ -57,11 +36,11 @@ put-image-spec =
     tie.close
     (tie.spec
     returns
-    put-marks-requires
-    capped-requires
-    capped-requires-2
-    capped-requires-3
-    put-numbers-requires
-    put-arrays-requires
-    same-length
+    (λ c κs. search needs)
+    (λ c κs. search needs)
+    (λ c κs. search needs)
+    (λ c κs. search needs)
+    (λ c κs. search needs)
+    (λ c κs. search needs)
+    (λ c. search needs)
     returns-2)

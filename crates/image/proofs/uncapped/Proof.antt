@@ -8,9 +8,6 @@ use borrow.Author.Needs.{needs}
 use Rattle.image.proofs.uncapped.Statement.{statement}
 use Rattle.image.proofs.uncapped.Tie as tie
 
-cast-result : tie.Need-cast-result
-cast-result c = search needs
-
 returns : tie.Need-returns
 unfolding capped choose
 returns c =
@@ -18,4 +15,4 @@ returns c =
     rw (le-leb (c .args .n) (2 ^ 32 - 1) (omega arith))
 
 pub uncapped-spec : {M : Type 1} → statement M
-uncapped-spec = tie.close (tie.spec cast-result returns)
+uncapped-spec = tie.close (tie.spec (λ c. search needs) returns)

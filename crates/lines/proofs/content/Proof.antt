@@ -10,12 +10,6 @@ use Rattle.lines.proofs.content.Tie as tie
 returns : tie.Need-returns
 returns c = content-empty _ (c .if1 .taken)
 
-sub-last : tie.Need-sub-last
-sub-last c = search needs
-
-shared-slice-read-if2 : tie.Need-shared-slice-read-if2
-shared-slice-read-if2 c = search needs
-
 slice-aggregate-result : tie.Need-slice-aggregate-result
 slice-aggregate-result c = sym (length-take-le _ _ (omega arith))
 
@@ -28,4 +22,4 @@ returns-3 c = content-whole _ (c .if2 .left)
 pub content-spec : {M : Type 1} → statement M
 content-spec =
     tie.close
-    (tie.spec returns sub-last shared-slice-read-if2 slice-aggregate-result returns-2 returns-3)
+    (tie.spec returns (λ c. search needs) (λ c. search needs) slice-aggregate-result returns-2 returns-3)

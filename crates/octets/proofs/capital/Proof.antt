@@ -13,12 +13,9 @@ returns-2 : tie.Need-returns-2
 unfolding capital choose
 returns-2 c = rw (is-above 97 122 _ (c .if2 .taken))
 
-sub-result : tie.Need-sub-result
-sub-result c = search needs
-
 returns-3 : tie.Need-returns-3
 unfolding capital choose
 returns-3 c = rw (is-within 97 122 _ (c .before .if1 .left) (c .if2 .left))
 
 pub capital-spec : {M : Type 1} → statement M
-capital-spec = tie.close (tie.spec returns returns-2 sub-result returns-3)
+capital-spec = tie.close (tie.spec returns returns-2 (λ c. search needs) returns-3)

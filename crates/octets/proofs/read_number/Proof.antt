@@ -17,9 +17,6 @@ returns-2 : tie.Need-returns-2
 unfolding numberRead
 returns-2 c = sym (ap numberRead (number-length _ _ _ _ (is-above _ _ _ (c .if2 .taken))))
 
-digits-end-requires : tie.Need-digits-end-requires
-digits-end-requires c κs = search needs
-
 returns-3 : tie.Need-returns-3
 unfolding numberRead
 returns-3 c =
@@ -38,4 +35,4 @@ returns-4 c =
 
 pub read-number-spec : {M : Type 1} → statement M
 read-number-spec =
-    tie.close (tie.spec returns returns-2 digits-end-requires returns-3 value-requires returns-4)
+    tie.close (tie.spec returns returns-2 (λ c κs. search needs) returns-3 value-requires returns-4)

@@ -14,15 +14,6 @@ held : (src : List ℕ) {block : List ℕ} → length src ≤ 1024 → block ≡
 held src fits copied =
     ap (take (length src)) copied ∙ front-taken (replicate 1024 0) src (omega (arith, length-replicate {A = ℕ} 1024 0))
 
-slice-aggregate-copy : tie.Need-slice-aggregate-copy
-slice-aggregate-copy c = search needs
-
-copy-requires : tie.Need-copy-requires
-copy-requires c κs = search needs
-
-array-share-prefix-block : tie.Need-array-share-prefix-block
-array-share-prefix-block c = search needs
-
 slice-aggregate-copy-2 : tie.Need-slice-aggregate-copy-2
 slice-aggregate-copy-2 c =
     let start = c .before .before .before .before .before .before .before in
@@ -32,9 +23,6 @@ copy-requires-2 : tie.Need-copy-requires-2
 copy-requires-2 c κs =
     let start = c .before .before .before .before .before .before .before in
     rw (held (start .args .src .now) (start .pre .0) (c .before .before .before .copy .ensures)) (start .pre .1)
-
-same-length : tie.Need-same-length
-same-length c = search needs
 
 returns : tie.Need-returns
 returns c =
@@ -47,10 +35,10 @@ pub put-block-spec : {M : Type 1} → statement M
 put-block-spec =
     tie.close
     (tie.spec
-    slice-aggregate-copy
-    copy-requires
-    array-share-prefix-block
+    (λ c. search needs)
+    (λ c κs. search needs)
+    (λ c. search needs)
     slice-aggregate-copy-2
     copy-requires-2
-    same-length
+    (λ c. search needs)
     returns)

@@ -7,15 +7,6 @@ use Rattle.own.proofs.Lengths.{state-short}
 use Rattle.own.proofs.answer_length.Statement.{statement}
 use Rattle.own.proofs.answer_length.Tie as tie
 
-enum-told : tie.Need-enum-told
-enum-told c = search needs
-
-enum-told-2 : tie.Need-enum-told-2
-enum-told-2 c = search needs
-
-enum-known-a : tie.Need-enum-known-a
-enum-known-a c = search needs
-
 returns : tie.Need-returns
 unfolding answerLine stateLine
 returns c = rw (c .enum-told .given .1)
@@ -37,4 +28,4 @@ returns-4 c =
 
 pub answer-length-spec : {M : Type 1} → statement M
 answer-length-spec =
-    tie.close (tie.spec enum-told enum-told-2 enum-known-a returns returns-2 returns-3 returns-4)
+    tie.close (tie.spec (λ c. search needs) (λ c. search needs) (λ c. search needs) returns returns-2 returns-3 returns-4)

@@ -9,11 +9,8 @@ use Rattle.places.proofs.first_octets.Tie as tie
 slice-aggregate-result : tie.Need-slice-aggregate-result
 slice-aggregate-result c = sym (length-take-le _ _ (omega arith))
 
-returns : tie.Need-returns
-returns c = search needs
-
 returns-2 : tie.Need-returns-2
 returns-2 c = let a = c .before .args in sym (take-all (a .n) (a .line .now) (omega arith))
 
 pub first-octets-spec : {M : Type 1} → statement M
-first-octets-spec = tie.close (tie.spec slice-aggregate-result returns returns-2)
+first-octets-spec = tie.close (tie.spec slice-aggregate-result (λ c. search needs) returns-2)

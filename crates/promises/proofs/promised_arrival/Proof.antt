@@ -17,15 +17,6 @@ use Rattle.promises.proofs.Promises.{call-promised}
 use Rattle.promises.proofs.promised_arrival.Statement.{statement}
 use Rattle.promises.proofs.promised_arrival.Tie as tie
 
-arrive-requires : tie.Need-arrive-requires
-arrive-requires c κs = search needs
-
-same-length : tie.Need-same-length
-same-length c = search needs
-
-same-length-2 : tie.Need-same-length-2
-same-length-2 c = search needs
-
 -- the record's arrays have the lengths and the octets of their types
 shaped : (c : tie.After-slice-known4) → Shaped (c .before .before .before .before .before .before .before .before .before .before .args .session)
 unfolding judged
@@ -51,4 +42,4 @@ returns c =
     (p, progress (a .session) (a .direction) (a .octets .now) (length (a .to-server .now)) (length (a .to-client .now)) (shaped c) (p .answer) (p .taken))
 
 pub promised-arrival-spec : {M : Type 1} → statement M
-promised-arrival-spec = tie.close (tie.spec arrive-requires same-length same-length-2 returns)
+promised-arrival-spec = tie.close (tie.spec (λ c κs. search needs) (λ c. search needs) (λ c. search needs) returns)

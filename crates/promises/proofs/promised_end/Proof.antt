@@ -6,15 +6,6 @@ use Rattle.promises.proofs.Promises.{call-promised}
 use Rattle.promises.proofs.promised_end.Statement.{statement}
 use Rattle.promises.proofs.promised_end.Tie as tie
 
-end-requires : tie.Need-end-requires
-end-requires c κs = search needs
-
-same-length : tie.Need-same-length
-same-length c = search needs
-
-same-length-2 : tie.Need-same-length-2
-same-length-2 c = search needs
-
 returns : tie.Need-returns
 unfolding outcomeOf
 returns c =
@@ -23,4 +14,4 @@ returns c =
     call-promised (a .session) (ending (a .direction) (a .to-server .now) (a .to-client .now)) _ _ _ (e .0) (e .1 .0) (e .1 .1)
 
 pub promised-end-spec : {M : Type 1} → statement M
-promised-end-spec = tie.close (tie.spec end-requires same-length same-length-2 returns)
+promised-end-spec = tie.close (tie.spec (λ c κs. search needs) (λ c. search needs) (λ c. search needs) returns)

@@ -5,13 +5,10 @@ use Rattle.promises.proofs.Promises.{offset-promised}
 use Rattle.promises.proofs.promised_offset.Statement.{statement}
 use Rattle.promises.proofs.promised_offset.Tie as tie
 
-offset-requires : tie.Need-offset-requires
-offset-requires c κs = search needs
-
 returns : tie.Need-returns
 returns c =
     let e = c .offset .ensures in
     (e, λ h. e ∙ offset-promised (c .before .args .session) (c .before .args .direction) h)
 
 pub promised-offset-spec : {M : Type 1} → statement M
-promised-offset-spec = tie.close (tie.spec offset-requires returns)
+promised-offset-spec = tie.close (tie.spec (λ c κs. search needs) returns)

@@ -4,9 +4,6 @@ use Rattle.promises.proofs.Promises.{fresh-promised}
 use Rattle.promises.proofs.promised_setup.Statement.{statement}
 use Rattle.promises.proofs.promised_setup.Tie as tie
 
-setup-requires : tie.Need-setup-requires
-setup-requires c κs = search needs
-
 returns : tie.Need-returns
 returns c =
     let a = c .before .args in
@@ -14,4 +11,4 @@ returns c =
     (e, fresh-promised (a .setup) _ e)
 
 pub promised-setup-spec : {M : Type 1} → statement M
-promised-setup-spec = tie.close (tie.spec setup-requires returns)
+promised-setup-spec = tie.close (tie.spec (λ c κs. search needs) returns)

@@ -31,24 +31,6 @@ returns-2 c =
     let long : length (a .t1) ≡ mostOwed = search needs in
     at-none (a .t1) (a .i) (a .owed) answerFirst (none-kept (a .t1) (a .i) (a .owed) (omega arith))
 
-array-read-kind-of : tie.Need-array-read-kind-of
-array-read-kind-of c = search needs
-
-kind-of-requires : tie.Need-kind-of-requires
-kind-of-requires c κs = search needs
-
-enum-known-kind : tie.Need-enum-known-kind
-enum-known-kind c = search needs
-
-enum-told : tie.Need-enum-told
-enum-told c = search needs
-
-enum-told-2 : tie.Need-enum-told-2
-enum-told-2 c = search needs
-
-enum-told-3 : tie.Need-enum-told-3
-enum-told-3 c = search needs
-
 returns-3 : tie.Need-returns-3
 unfolding answerOf
 returns-3 c = ap answerOf (sym (c .before .kind .given .1)) ∙ here (c .before .before .before)
@@ -71,12 +53,12 @@ answer-at-spec =
     (tie.spec
     returns
     returns-2
-    array-read-kind-of
-    kind-of-requires
-    enum-known-kind
-    enum-told
-    enum-told-2
-    enum-told-3
+    (λ c. search needs)
+    (λ c κs. search needs)
+    (λ c. search needs)
+    (λ c. search needs)
+    (λ c. search needs)
+    (λ c. search needs)
     returns-3
     returns-4
     returns-5

@@ -4,15 +4,6 @@ use Rattle.queue.specs.Kinds.{answerCode, stateCode}
 use Rattle.queue.proofs.answer_code.Statement.{statement}
 use Rattle.queue.proofs.answer_code.Tie as tie
 
-enum-told : tie.Need-enum-told
-enum-told c = search needs
-
-enum-told-2 : tie.Need-enum-told-2
-enum-told-2 c = search needs
-
-enum-known-answer : tie.Need-enum-known-answer
-enum-known-answer c = search needs
-
 returns : tie.Need-returns
 unfolding answerCode stateCode
 returns c = search needs
@@ -41,9 +32,9 @@ pub answer-code-spec : {M : Type 1} → statement M
 answer-code-spec =
     tie.close
     (tie.spec
-    enum-told
-    enum-told-2
-    enum-known-answer
+    (λ c. search needs)
+    (λ c. search needs)
+    (λ c. search needs)
     returns
     returns-2
     returns-3

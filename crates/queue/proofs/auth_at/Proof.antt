@@ -32,24 +32,6 @@ returns-2 c =
     let long : length (a .t1) ≡ mostOwed = search needs in
     at-none (a .t1) (a .from) (a .owed) authAtHead (none-kept (a .t1) (a .from) (a .owed) (omega arith))
 
-array-read-kind-of : tie.Need-array-read-kind-of
-array-read-kind-of c = search needs
-
-kind-of-requires : tie.Need-kind-of-requires
-kind-of-requires c κs = search needs
-
-enum-told : tie.Need-enum-told
-enum-told c = search needs
-
-enum-told-2 : tie.Need-enum-told-2
-enum-told-2 c = search needs
-
-enum-told-3 : tie.Need-enum-told-3
-enum-told-3 c = search needs
-
-enum-told-4 : tie.Need-enum-told-4
-enum-told-4 c = search needs
-
 returns-3 : tie.Need-returns-3
 returns-3 c = ap (λ (k : Kind). isAuth k) (sym (c .enum-told .given .1)) ∙ here (c .before .before)
 
@@ -68,12 +50,12 @@ auth-at-spec =
     (tie.spec
     returns
     returns-2
-    array-read-kind-of
-    kind-of-requires
-    enum-told
-    enum-told-2
-    enum-told-3
-    enum-told-4
+    (λ c. search needs)
+    (λ c κs. search needs)
+    (λ c. search needs)
+    (λ c. search needs)
+    (λ c. search needs)
+    (λ c. search needs)
     returns-3
     returns-4
     returns-5

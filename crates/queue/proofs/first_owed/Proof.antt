@@ -23,14 +23,8 @@ one kinds owed h e = rw (ne-eqb owed 0 h) (ap Owes.One e)
 returns : tie.Need-returns
 returns c = none (c .before .args .t1) (c .before .args .owed) (c .if1 .taken)
 
-array-read-kind-of : tie.Need-array-read-kind-of
-array-read-kind-of c = search needs
-
-kind-of-requires : tie.Need-kind-of-requires
-kind-of-requires c κs = search needs
-
 returns-2 : tie.Need-returns-2
 returns-2 c = one (c .before .before .args .t1) (c .before .before .args .owed) (c .before .if1 .left) (c .kind-of .ensures)
 
 pub first-owed-spec : {M : Type 1} → statement M
-first-owed-spec = tie.close (tie.spec returns array-read-kind-of kind-of-requires returns-2)
+first-owed-spec = tie.close (tie.spec returns (λ c. search needs) (λ c κs. search needs) returns-2)

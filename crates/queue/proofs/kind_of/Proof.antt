@@ -7,18 +7,6 @@ use Rattle.queue.specs.Kinds.{kindOf}
 use Rattle.queue.proofs.kind_of.Statement.{statement}
 use Rattle.queue.proofs.kind_of.Tie as tie
 
-state-kind-requires : tie.Need-state-kind-requires
-state-kind-requires c κs = search needs
-
-state-kind-requires-2 : tie.Need-state-kind-requires-2
-state-kind-requires-2 c κs = search needs
-
-state-kind-requires-3 : tie.Need-state-kind-requires-3
-state-kind-requires-3 c κs = search needs
-
-state-kind-requires-4 : tie.Need-state-kind-requires-4
-state-kind-requires-4 c κs = search needs
-
 returns : tie.Need-returns
 unfolding kindOf choose
 returns c = ap kindOf (sym (c .match .keys1))
@@ -59,10 +47,10 @@ pub kind-of-spec : {M : Type 1} → statement M
 kind-of-spec =
     tie.close
     (tie.spec
-    state-kind-requires
-    state-kind-requires-2
-    state-kind-requires-3
-    state-kind-requires-4
+    (λ c κs. search needs)
+    (λ c κs. search needs)
+    (λ c κs. search needs)
+    (λ c κs. search needs)
     returns
     returns-2
     returns-3

@@ -8,12 +8,6 @@ use Rattle.queue.proofs.Still.{still-answers, still-auth}
 use Rattle.queue.proofs.planned.Statement.{statement}
 use Rattle.queue.proofs.planned.Tie as tie
 
-slice-aggregate-is-still : tie.Need-slice-aggregate-is-still
-slice-aggregate-is-still c = search needs
-
-is-still-requires : tie.Need-is-still-requires
-is-still-requires c κs = search needs
-
 returns : tie.Need-returns
 returns c =
     let a = c .before .before .before .args in
@@ -23,19 +17,10 @@ returns c =
       omega arith,
     )
 
-auth-at-requires : tie.Need-auth-at-requires
-auth-at-requires c κs = search needs
-
 returns-2 : tie.Need-returns-2
 returns-2 c =
     let a = c .before .before .before .before .before .args in
     (plan-waits (queueOf (a .t1) (a .owed)) (a .from) (c .before .if2 .taken) (c .auth-at .ensures), omega arith)
-
-due-requires : tie.Need-due-requires
-due-requires c κs = search needs
-
-auth-at-requires-2 : tie.Need-auth-at-requires-2
-auth-at-requires-2 c κs = search needs
 
 returns-3 : tie.Need-returns-3
 returns-3 c =
@@ -47,11 +32,11 @@ pub planned-spec : {M : Type 1} → statement M
 planned-spec =
     tie.close
     (tie.spec
-    slice-aggregate-is-still
-    is-still-requires
+    (λ c. search needs)
+    (λ c κs. search needs)
     returns
-    auth-at-requires
+    (λ c κs. search needs)
     returns-2
-    due-requires
-    auth-at-requires-2
+    (λ c κs. search needs)
+    (λ c κs. search needs)
     returns-3)

@@ -21,12 +21,6 @@ within : (kinds : List ℕ) (owed : ℕ) {o : Owes} {k : Kind} {n : ℕ} → n �
 unfolding pushed
 within kinds owed c e = ap (λ (n : ℕ). set kinds owed n) c ∙ ap (pushed kinds owed) (sym e)
 
-enum-known-owes : tie.Need-enum-known-owes
-enum-known-owes c = search needs
-
-enum-told : tie.Need-enum-told
-enum-told c = search needs
-
 returns : tie.Need-returns
 unfolding pushed
 returns c = search needs
@@ -37,12 +31,6 @@ returns-2 c =
     let long : length (a .kinds) ≡ mostOwed = search needs in
     behind (a .kinds) (a .owed) (omega arith) (c .before .before .owes .given .1)
 
-code-of-requires : tie.Need-code-of-requires
-code-of-requires c κs = search needs
-
-array-write-longer : tie.Need-array-write-longer
-array-write-longer c = search needs
-
 returns-3 : tie.Need-returns-3
 returns-3 c =
     let a = c .before .before .before .before .before .args in
@@ -52,10 +40,10 @@ pub push-spec : {M : Type 1} → statement M
 push-spec =
     tie.close
     (tie.spec
-    enum-known-owes
-    enum-told
+    (λ c. search needs)
+    (λ c. search needs)
     returns
     returns-2
-    code-of-requires
-    array-write-longer
+    (λ c κs. search needs)
+    (λ c. search needs)
     returns-3)

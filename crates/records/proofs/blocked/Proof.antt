@@ -8,18 +8,6 @@ use Rattle.records.proofs.blocked.Tie as tie
 returns : tie.Need-returns
 returns c = blocked-by-reply (c .before .args .control) (c .if1 .taken)
 
-enum-told : tie.Need-enum-told
-enum-told c = search needs
-
-enum-told-2 : tie.Need-enum-told-2
-enum-told-2 c = search needs
-
-enum-told-3 : tie.Need-enum-told-3
-enum-told-3 c = search needs
-
-enum-told-4 : tie.Need-enum-told-4
-enum-told-4 c = search needs
-
 returns-2 : tie.Need-returns-2
 unfolding isFlowingOrEnded
 returns-2 c = blocked-by-place (c .before .before .before .before .args .control) (c .before .before .before .if1 .left) (c .enum-told .given .1)
@@ -41,10 +29,10 @@ blocked-spec =
     tie.close
     (tie.spec
     returns
-    enum-told
-    enum-told-2
-    enum-told-3
-    enum-told-4
+    (λ c. search needs)
+    (λ c. search needs)
+    (λ c. search needs)
+    (λ c. search needs)
     returns-2
     returns-3
     returns-4

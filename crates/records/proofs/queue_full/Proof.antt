@@ -12,9 +12,6 @@ returns c =
     let a = c .before .args in
     never-server (a .from-client) (isPassing (a .control .client .place)) (a .control .owed) (not-true (a .from-client) (c .if1 .taken))
 
-is-passing-requires : tie.Need-is-passing-requires
-is-passing-requires c κs = search needs
-
 returns-2 : tie.Need-returns-2
 returns-2 c =
     let a = c .before .before .before .before .args in
@@ -28,4 +25,4 @@ returns-3 c =
     (sym (c .before .before .is-passing .ensures) ∙ c .before .if2 .left)
 
 pub queue-full-spec : {M : Type 1} → statement M
-queue-full-spec = tie.close (tie.spec returns is-passing-requires returns-2 returns-3)
+queue-full-spec = tie.close (tie.spec returns (λ c κs. search needs) returns-2 returns-3)

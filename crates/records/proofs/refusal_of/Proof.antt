@@ -4,12 +4,9 @@ use Rattle.records.specs.Sound.{sound, refusalOf}
 use Rattle.records.proofs.refusal_of.Statement.{statement}
 use Rattle.records.proofs.refusal_of.Tie as tie
 
-refusal-on-requires : tie.Need-refusal-on-requires
-refusal-on-requires c κs = search needs
-
 returns : tie.Need-returns
 unfolding sound refusalOf
 returns c = c .refusal-on .ensures
 
 pub refusal-of-spec : {M : Type 1} → statement M
-refusal-of-spec = tie.close (tie.spec refusal-on-requires returns)
+refusal-of-spec = tie.close (tie.spec (λ c κs. search needs) returns)

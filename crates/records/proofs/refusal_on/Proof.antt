@@ -10,17 +10,8 @@ use Rattle.records.proofs.refusal_on.Tie as tie
 returns : tie.Need-returns
 returns c = unknown (c .before .args .direction) _ _ (c .if1 .taken)
 
-sound-requires : tie.Need-sound-requires
-sound-requires c κs = search needs
-
 returns-2 : tie.Need-returns-2
 returns-2 c = unsound _ _ _ (c .before .before .if1 .left) (c .before .sound .ensures) (c .if2 .taken)
-
-direction-of-requires : tie.Need-direction-of-requires
-direction-of-requires c κs = search needs
-
-has-ended-requires : tie.Need-has-ended-requires
-has-ended-requires c κs = search needs
 
 returns-3 : tie.Need-returns-3
 returns-3 c = over _ _ _ (c .before .before .before .before .before .if1 .left) (c .before .before .before .before .sound .ensures) (c .before .before .before .if2 .left)
@@ -35,9 +26,9 @@ refusal-on-spec =
     tie.close
     (tie.spec
     returns
-    sound-requires
+    (λ c κs. search needs)
     returns-2
-    direction-of-requires
-    has-ended-requires
+    (λ c κs. search needs)
+    (λ c κs. search needs)
     returns-3
     returns-4)

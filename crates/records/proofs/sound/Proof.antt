@@ -14,24 +14,15 @@ returns-2 c =
     let s = c .before .before .before .args in
     too-many (s .live) (s .control .owed) _ _ _ (c .before .before .if1 .left) (c .if2 .taken)
 
-kinds-listed-requires : tie.Need-kinds-listed-requires
-kinds-listed-requires c κs = search needs
-
 returns-3 : tie.Need-returns-3
 returns-3 c =
     let s = c .before .before .before .before .before .args in
     unlisted (s .live) (s .control .owed) _ _ _ (c .before .before .before .before .if1 .left) (c .before .before .if2 .left) (c .before .kinds-listed .ensures) (c .if3 .taken)
 
-sound-direction-requires : tie.Need-sound-direction-requires
-sound-direction-requires c κs = search needs
-
 returns-4 : tie.Need-returns-4
 returns-4 c =
     let s = c .before .before .before .before .before .before .before .before .args in
     client-unsound (s .live) (s .control .owed) _ _ _ (c .before .before .before .before .before .before .before .if1 .left) (c .before .before .before .before .before .if2 .left) (c .before .before .before .before .kinds-listed .ensures) (c .before .before .before .if3 .left) (c .before .sound-direction .ensures) (c .if4 .taken)
-
-sound-direction-requires-2 : tie.Need-sound-direction-requires-2
-sound-direction-requires-2 c κs = search needs
 
 returns-5 : tie.Need-returns-5
 returns-5 c =
@@ -44,9 +35,9 @@ sound-spec =
     (tie.spec
     returns
     returns-2
-    kinds-listed-requires
+    (λ c κs. search needs)
     returns-3
-    sound-direction-requires
+    (λ c κs. search needs)
     returns-4
-    sound-direction-requires-2
+    (λ c κs. search needs)
     returns-5)

@@ -11,18 +11,6 @@ use Rattle.records.proofs.sound_direction.Tie as tie
 returns : tie.Need-returns
 returns c = none-held (c .before .before .args .direction) (c .if1 .taken)
 
-enum-told : tie.Need-enum-told
-enum-told c = search needs
-
-enum-told-2 : tie.Need-enum-told-2
-enum-told-2 c = search needs
-
-enum-told-3 : tie.Need-enum-told-3
-enum-told-3 c = search needs
-
-enum-told-4 : tie.Need-enum-told-4
-enum-told-4 c = search needs
-
 returns-2 : tie.Need-returns-2
 unfolding soundHeld choose judged
 returns-2 c = at-place (c .before .before .before .before .before .args .direction) (c .before .enum-told .given .1)
@@ -41,10 +29,10 @@ sound-direction-spec =
     tie.close
     (tie.spec
     returns
-    enum-told
-    enum-told-2
-    enum-told-3
-    enum-told-4
+    (λ c. search needs)
+    (λ c. search needs)
+    (λ c. search needs)
+    (λ c. search needs)
     returns-2
     returns-3
     returns-4

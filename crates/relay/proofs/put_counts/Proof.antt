@@ -12,17 +12,8 @@ returns : tie.Need-returns
 unfolding choose
 returns c = rw (lt-leb 3 _ (c .if1 .taken))
 
-slice-write-counts : tie.Need-slice-write-counts
-slice-write-counts c = search needs
-
 slice-write-counts-2 : tie.Need-slice-write-counts-2
 slice-write-counts-2 c = simp length-set (omega arith)
-
-slice-write-counts-3 : tie.Need-slice-write-counts-3
-slice-write-counts-3 c = search needs
-
-same-length : tie.Need-same-length
-same-length c = search needs
 
 returns-2 : tie.Need-returns-2
 unfolding choose
@@ -35,8 +26,8 @@ put-counts-spec =
     tie.close
     (tie.spec
     returns
-    slice-write-counts
+    (λ c. search needs)
     slice-write-counts-2
-    slice-write-counts-3
-    same-length
+    (λ c. search needs)
+    (λ c. search needs)
     returns-2)

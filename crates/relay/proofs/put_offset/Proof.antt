@@ -6,12 +6,6 @@ use borrow.Author.Needs.{needs}
 use Rattle.relay.proofs.put_offset.Statement.{statement}
 use Rattle.relay.proofs.put_offset.Tie as tie
 
-slice-write-out : tie.Need-slice-write-out
-slice-write-out c = search needs
-
-same-length : tie.Need-same-length
-same-length c = search needs
-
 returns : tie.Need-returns
 unfolding offsetAfter
 returns c = search needs
@@ -21,4 +15,4 @@ unfolding offsetAfter
 returns-2 c = sym (set-out (c .before .args .out .now) 0 (c .before .args .n) (c .if1 .left))
 
 pub put-offset-spec : {M : Type 1} → statement M
-put-offset-spec = tie.close (tie.spec slice-write-out same-length returns returns-2)
+put-offset-spec = tie.close (tie.spec (λ c. search needs) (λ c. search needs) returns returns-2)

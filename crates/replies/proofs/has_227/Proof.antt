@@ -10,14 +10,8 @@ use Rattle.replies.proofs.has_227.Tie as tie
 returns : tie.Need-returns
 returns c = sym (passive-short _ (c .if1 .taken))
 
-shared-slice-read-if2 : tie.Need-shared-slice-read-if2
-shared-slice-read-if2 c = search needs
-
 returns-2 : tie.Need-returns-2
 returns-2 c = passive-tests _ false (c .before .before .if1 .left) (rw (ne-eqb _ 50 (c .if2 .taken)))
-
-shared-slice-read-if3 : tie.Need-shared-slice-read-if3
-shared-slice-read-if3 c = search needs
 
 returns-3 : tie.Need-returns-3
 returns-3 c =
@@ -25,18 +19,12 @@ returns-3 c =
     passive-tests _ false (first .before .before .if1 .left)
     (rw (eq-eqb _ 50 (first .if2 .left), ne-eqb _ 50 (c .if3 .taken)))
 
-shared-slice-read-if4 : tie.Need-shared-slice-read-if4
-shared-slice-read-if4 c = search needs
-
 returns-4 : tie.Need-returns-4
 returns-4 c =
     let second = c .before .before in
     let first = second .before .before in
     passive-tests _ false (first .before .before .if1 .left)
     (rw (eq-eqb _ 50 (first .if2 .left), eq-eqb _ 50 (second .if3 .left), ne-eqb _ 55 (c .if4 .taken)))
-
-shared-slice-read-result : tie.Need-shared-slice-read-result
-shared-slice-read-result c = search needs
 
 returns-5 : tie.Need-returns-5
 returns-5 c =
@@ -51,11 +39,11 @@ has-227-spec =
     tie.close
     (tie.spec
     returns
-    shared-slice-read-if2
+    (λ c. search needs)
     returns-2
-    shared-slice-read-if3
+    (λ c. search needs)
     returns-3
-    shared-slice-read-if4
+    (λ c. search needs)
     returns-4
-    shared-slice-read-result
+    (λ c. search needs)
     returns-5)

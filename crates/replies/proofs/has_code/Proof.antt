@@ -10,32 +10,17 @@ use Rattle.replies.proofs.has_code.Tie as tie
 returns : tie.Need-returns
 returns c = sym (code-short _ (c .if1 .taken))
 
-shared-slice-read-first : tie.Need-shared-slice-read-first
-shared-slice-read-first c = search needs
-
 returns-2 : tie.Need-returns-2
 returns-2 c = sym (code-low _ (c .if2 .taken))
 
 returns-3 : tie.Need-returns-3
 returns-3 c = sym (code-high _ (c .before .if2 .left) (c .if3 .taken))
 
-shared-slice-read-is-digit : tie.Need-shared-slice-read-is-digit
-shared-slice-read-is-digit c = search needs
-
-is-digit-requires : tie.Need-is-digit-requires
-is-digit-requires c κs = search needs
-
 returns-4 : tie.Need-returns-4
 returns-4 c =
     let first = c .before .before .before in
     let second = sym (not-true _ (c .if4 .taken)) ∙ c .before .is-digit .ensures in
     sym (code-digits _ false _ (first .before .if2 .left) (first .if3 .left) second refl)
-
-shared-slice-read-is-digit-2 : tie.Need-shared-slice-read-is-digit-2
-shared-slice-read-is-digit-2 c = search needs
-
-is-digit-requires-2 : tie.Need-is-digit-requires-2
-is-digit-requires-2 c κs = search needs
 
 returns-5 : tie.Need-returns-5
 returns-5 c =
@@ -51,12 +36,12 @@ has-code-spec =
     tie.close
     (tie.spec
     returns
-    shared-slice-read-first
+    (λ c. search needs)
     returns-2
     returns-3
-    shared-slice-read-is-digit
-    is-digit-requires
+    (λ c. search needs)
+    (λ c κs. search needs)
     returns-4
-    shared-slice-read-is-digit-2
-    is-digit-requires-2
+    (λ c. search needs)
+    (λ c κs. search needs)
     returns-5)

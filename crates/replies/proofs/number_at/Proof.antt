@@ -9,26 +9,8 @@ use borrow.Author.Needs.{needs}
 use Rattle.replies.proofs.number_at.Statement.{statement}
 use Rattle.replies.proofs.number_at.Tie as tie
 
-digits-end-requires : tie.Need-digits-end-requires
-digits-end-requires c κs = search needs
-
-sub-read-number : tie.Need-sub-read-number
-sub-read-number c = search needs
-
-part-read-number-start : tie.Need-part-read-number-start
-part-read-number-start c = search needs
-
 part-read-number-end : tie.Need-part-read-number-end
 part-read-number-end c = run-inside digit _ _ _ (c .before .before .pre) (c .digits-end .ensures)
-
-read-number-requires : tie.Need-read-number-requires
-read-number-requires c κs = search needs
-
-enum-known-n : tie.Need-enum-known-n
-enum-known-n c = search needs
-
-enum-told : tie.Need-enum-told
-enum-told c = search needs
 
 returns : tie.Need-returns
 unfolding endingAt
@@ -52,13 +34,13 @@ pub number-at-spec : {M : Type 1} → statement M
 number-at-spec =
     tie.close
     (tie.spec
-    digits-end-requires
-    sub-read-number
-    part-read-number-start
+    (λ c κs. search needs)
+    (λ c. search needs)
+    (λ c. search needs)
     part-read-number-end
-    read-number-requires
-    enum-known-n
-    enum-told
+    (λ c κs. search needs)
+    (λ c. search needs)
+    (λ c. search needs)
     returns
     cast-t10
     returns-2)

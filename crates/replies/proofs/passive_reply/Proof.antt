@@ -14,14 +14,8 @@ use Rattle.replies.proofs.passive_reply.Tie as tie
 code : (c : tie.Else1) → startsWith227 (c .before .before .before .args .content .now) ≡ true
 code c = sym (c .before .has-227 .ensures) ∙ not-false _ (c .if1 .left)
 
-has-227-requires : tie.Need-has-227-requires
-has-227-requires c κs = search needs
-
 returns : tie.Need-returns
 returns c = without-227 _ (sym (c .before .has-227 .ensures) ∙ not-true _ (c .if1 .taken))
-
-first-digit-requires : tie.Need-first-digit-requires
-first-digit-requires c κs = search needs
 
 port-at-requires : tie.Need-port-at-requires
 port-at-requires c κs =
@@ -33,4 +27,4 @@ returns-2 c =
 
 pub passive-reply-spec : {M : Type 1} → statement M
 passive-reply-spec =
-    tie.close (tie.spec has-227-requires returns first-digit-requires port-at-requires returns-2)
+    tie.close (tie.spec (λ c κs. search needs) returns (λ c κs. search needs) port-at-requires returns-2)

@@ -14,17 +14,8 @@ use Rattle.replies.proofs.reply_line.Tie as tie
 code : (c : tie.Else1) → startsWithCode (c .before .before .before .args .content .now) ≡ true
 code c = sym (c .before .has-code .ensures) ∙ not-false _ (c .if1 .left)
 
-has-code-requires : tie.Need-has-code-requires
-has-code-requires c κs = search needs
-
 returns : tie.Need-returns
 returns c = without-code _ (sym (c .before .has-code .ensures) ∙ not-true _ (c .if1 .taken))
-
-shared-slice-read-ended : tie.Need-shared-slice-read-ended
-shared-slice-read-ended c = search needs
-
-ended-requires : tie.Need-ended-requires
-ended-requires c κs = search needs
 
 returns-2 : tie.Need-returns-2
 unfolding choose
@@ -48,9 +39,6 @@ shared-slice-read-ended-2 c =
     let two = c .before .before .before in
     omega (arith, two .if2 .left, code-long _ (code (two .before)))
 
-ended-requires-2 : tie.Need-ended-requires-2
-ended-requires-2 c κs = search needs
-
 returns-4 : tie.Need-returns-4
 unfolding choose
 returns-4 c =
@@ -62,13 +50,13 @@ pub reply-line-spec : {M : Type 1} → statement M
 reply-line-spec =
     tie.close
     (tie.spec
-    has-code-requires
+    (λ c κs. search needs)
     returns
-    shared-slice-read-ended
-    ended-requires
+    (λ c. search needs)
+    (λ c κs. search needs)
     returns-2
     shared-slice-read-if3
     returns-3
     shared-slice-read-ended-2
-    ended-requires-2
+    (λ c κs. search needs)
     returns-4)

@@ -4,15 +4,6 @@ use borrow.Author.Needs.{needs}
 use Rattle.report.proofs.is_accepted.Statement.{statement}
 use Rattle.report.proofs.is_accepted.Tie as tie
 
-enum-told : tie.Need-enum-told
-enum-told c = search needs
-
-enum-told-2 : tie.Need-enum-told-2
-enum-told-2 c = search needs
-
-enum-told-3 : tie.Need-enum-told-3
-enum-told-3 c = search needs
-
 returns : tie.Need-returns
 unfolding isAccepted
 returns c = search needs
@@ -27,4 +18,4 @@ returns-3 c = search needs
 
 pub is-accepted-spec : {M : Type 1} → statement M
 is-accepted-spec =
-    tie.close (tie.spec enum-told enum-told-2 enum-told-3 returns returns-2 returns-3)
+    tie.close (tie.spec (λ c. search needs) (λ c. search needs) (λ c. search needs) returns returns-2 returns-3)

@@ -10,24 +10,12 @@ use Rattle.report.proofs.is_due.Tie as tie
 returns : tie.Need-returns
 returns c = let a = c .before .before .before .args in none-left (a .file .now) (a .replay) (c .if1 .taken)
 
-judge-requires : tie.Need-judge-requires
-judge-requires c κs = search needs
-
-is-accepted-requires : tie.Need-is-accepted-requires
-is-accepted-requires c κs = search needs
-
 returns-2 : tie.Need-returns-2
 returns-2 c =
     let j = c .before .before .judge in
     let t = c .before .is-accepted in
     let a = c .before .before .before .before .before .before .args in
     refused (a .file .now) (a .replay) (c .before .before .before .if1 .left) (ap isAccepted (sym (j .ensures)) ∙ (sym (t .ensures) ∙ not-true _ (c .if2 .taken)))
-
-cast-number : tie.Need-cast-number
-cast-number c = search needs
-
-pair-at-requires : tie.Need-pair-at-requires
-pair-at-requires c κs = search needs
 
 returns-3 : tie.Need-returns-3
 returns-3 c =
@@ -37,18 +25,6 @@ returns-3 c =
     let a = c .before .before .before .before .before .before .before .before .before .args in
     no-entry (a .file .now) (a .replay) (c .before .before .before .before .before .before .if1 .left) (ap isAccepted (sym (j .ensures)) ∙ (sym (t .ensures) ∙ not-false _ (c .before .before .before .if2 .left))) (n .result) (n .ensures .0) (c .if3 .taken)
 
-mul-pair-at : tie.Need-mul-pair-at
-mul-pair-at c = search needs
-
-add-pair-at : tie.Need-add-pair-at
-add-pair-at c = search needs
-
-add-pair-at-2 : tie.Need-add-pair-at-2
-add-pair-at-2 c = search needs
-
-pair-at-requires-2 : tie.Need-pair-at-requires-2
-pair-at-requires-2 c κs = search needs
-
 returns-4 : tie.Need-returns-4
 returns-4 c =
     let j = c .before .before .before .before .before .before .before .judge in
@@ -57,9 +33,6 @@ returns-4 c =
     let l = c .before .pair-at2 in
     let a = c .before .before .before .before .before .before .before .before .before .before .before .args in
     no-body (a .file .now) (a .replay) (c .before .before .before .before .before .before .before .before .if1 .left) (ap isAccepted (sym (j .ensures)) ∙ (sym (t .ensures) ∙ not-false _ (c .before .before .before .before .before .if2 .left))) (n .result) (n .ensures .0) (c .before .before .if3 .left) (l .result) (l .ensures .0) (c .if4 .taken)
-
-sub-result : tie.Need-sub-result
-sub-result c = search needs
 
 returns-5 : tie.Need-returns-5
 returns-5 c =
@@ -75,16 +48,16 @@ is-due-spec =
     tie.close
     (tie.spec
     returns
-    judge-requires
-    is-accepted-requires
+    (λ c κs. search needs)
+    (λ c κs. search needs)
     returns-2
-    cast-number
-    pair-at-requires
+    (λ c. search needs)
+    (λ c κs. search needs)
     returns-3
-    mul-pair-at
-    add-pair-at
-    add-pair-at-2
-    pair-at-requires-2
+    (λ c. search needs)
+    (λ c. search needs)
+    (λ c. search needs)
+    (λ c κs. search needs)
     returns-4
-    sub-result
+    (λ c. search needs)
     returns-5)

@@ -10,11 +10,8 @@ returns c = let a = c .before .args in none-after (a .answer) (a .left) (c .if1 
 returns-2 : tie.Need-returns-2
 returns-2 c = let a = c .before .before .args in still-none (a .answer) (a .left) (c .before .if1 .left) (c .if2 .taken)
 
-sub-result : tie.Need-sub-result
-sub-result c = search needs
-
 returns-3 : tie.Need-returns-3
 returns-3 c = let a = c .before .before .args in one-less (a .answer) (a .left) (c .before .if1 .left)
 
 pub left-after-spec : {M : Type 1} → statement M
-left-after-spec = tie.close (tie.spec returns returns-2 sub-result returns-3)
+left-after-spec = tie.close (tie.spec returns returns-2 (λ c. search needs) returns-3)

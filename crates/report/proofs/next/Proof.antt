@@ -11,62 +11,26 @@ use borrow.Author.Needs.{needs}
 use Rattle.report.proofs.next.Statement.{statement}
 use Rattle.report.proofs.next.Tie as tie
 
-is-due-requires : tie.Need-is-due-requires
-is-due-requires c κs = search needs
-
 returns : tie.Need-returns
 returns c =
     let a = c .before .before .before .before .args in
     over (a .file .now) (a .replay) (a .out .now) (sym (c .before .is-due .ensures) ∙ not-true _ (c .if1 .taken))
-
-cast-at : tie.Need-cast-at
-cast-at c = search needs
-
-mul-at : tie.Need-mul-at
-mul-at c = search needs
-
-add-at : tie.Need-add-at
-add-at c = search needs
-
-add-pair-at : tie.Need-add-pair-at
-add-pair-at c = search needs
-
-pair-at-requires : tie.Need-pair-at-requires
-pair-at-requires c κs = search needs
 
 add-body-end : tie.Need-add-body-end
 add-body-end c =
     let a = c .before .before .before .before .before .args in
     omega (arith, body-within (a .file .now) (a .replay) (sym (c .before .before .is-due .ensures) ∙ not-false _ (c .before .if1 .left)) (c .pair-at .ensures .0))
 
-empty-requires : tie.Need-empty-requires
-empty-requires c κs = search needs
-
-empty-requires-2 : tie.Need-empty-requires-2
-empty-requires-2 c κs = search needs
-
 shared-slice-read-run-entry : tie.Need-shared-slice-read-run-entry
 shared-slice-read-run-entry c =
     let a = c .before .before .before .before .before .before .before .before .before .args in
     omega (arith, due (a .file .now) (a .replay) (sym (c .before .before .before .before .before .before .is-due .ensures) ∙ not-false _ (c .before .before .before .before .before .if1 .left)) .within)
-
-sub-run-entry : tie.Need-sub-run-entry
-sub-run-entry c = search needs
-
-part-run-entry-start : tie.Need-part-run-entry-start
-part-run-entry-start c = search needs
 
 part-run-entry-end : tie.Need-part-run-entry-end
 part-run-entry-end c =
     let a = c .before .before .before .before .before .before .before .before .before .args in
     let within = body-within (a .file .now) (a .replay) (sym (c .before .before .before .before .before .before .is-due .ensures) ∙ not-false _ (c .before .before .before .before .before .if1 .left)) (c .before .before .before .before .pair-at .ensures .0) in
     omega arith
-
-slice-aggregate-run-entry : tie.Need-slice-aggregate-run-entry
-slice-aggregate-run-entry c = search needs
-
-slice-aggregate-run-entry-2 : tie.Need-slice-aggregate-run-entry-2
-slice-aggregate-run-entry-2 c = search needs
 
 run-entry-requires : tie.Need-run-entry-requires
 unfolding outRoom
@@ -83,9 +47,6 @@ add-t32 c =
     let a = c .before .before .before .before .before .before .before .before .before .before .before .before .before .before .before .before .args in
     omega (arith, due (a .file .now) (a .replay) (sym (c .before .before .before .before .before .before .before .before .before .before .before .before .before .is-due .ensures) ∙ not-false _ (c .before .before .before .before .before .before .before .before .before .before .before .before .if1 .left)) .number)
 
-left-after-requires : tie.Need-left-after-requires
-left-after-requires c κs = search needs
-
 array-share-prefix-to-server : tie.Need-array-share-prefix-to-server
 array-share-prefix-to-server c = let k = c .before .before .before .before .before .run-entry in written-within _ (k .last .1 .1 .1 .0) (k .last .1 .1 .1 .1 .0) (k .ensures) .0
 
@@ -97,15 +58,6 @@ array-share-prefix-to-client c = let k = c .before .before .before .before .befo
 
 slice-aggregate-put-entry-2 : tie.Need-slice-aggregate-put-entry-2
 slice-aggregate-put-entry-2 c = let k = c .before .before .before .before .before .before .before .run-entry in sym (length-take-le _ _ (written-within _ (k .last .1 .1 .1 .0) (k .last .1 .1 .1 .1 .0) (k .ensures) .1))
-
-put-entry-requires : tie.Need-put-entry-requires
-put-entry-requires c κs = search needs
-
-part-of-requires : tie.Need-part-of-requires
-part-of-requires c κs = search needs
-
-same-length : tie.Need-same-length
-same-length c = search needs
 
 returns-2 : tie.Need-returns-2
 returns-2 c =
@@ -123,30 +75,30 @@ pub next-spec : {M : Type 1} → statement M
 next-spec =
     tie.close
     (tie.spec
-    is-due-requires
+    (λ c κs. search needs)
     returns
-    cast-at
-    mul-at
-    add-at
-    add-pair-at
-    pair-at-requires
+    (λ c. search needs)
+    (λ c. search needs)
+    (λ c. search needs)
+    (λ c. search needs)
+    (λ c κs. search needs)
     add-body-end
-    empty-requires
-    empty-requires-2
+    (λ c κs. search needs)
+    (λ c κs. search needs)
     shared-slice-read-run-entry
-    sub-run-entry
-    part-run-entry-start
+    (λ c. search needs)
+    (λ c. search needs)
     part-run-entry-end
-    slice-aggregate-run-entry
-    slice-aggregate-run-entry-2
+    (λ c. search needs)
+    (λ c. search needs)
     run-entry-requires
     add-t32
-    left-after-requires
+    (λ c κs. search needs)
     array-share-prefix-to-server
     slice-aggregate-put-entry
     array-share-prefix-to-client
     slice-aggregate-put-entry-2
-    put-entry-requires
-    part-of-requires
-    same-length
+    (λ c κs. search needs)
+    (λ c κs. search needs)
+    (λ c. search needs)
     returns-2)

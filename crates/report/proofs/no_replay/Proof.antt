@@ -4,12 +4,9 @@ use borrow.Author.Needs.{needs}
 use Rattle.report.proofs.no_replay.Statement.{statement}
 use Rattle.report.proofs.no_replay.Tie as tie
 
-no-session-requires : tie.Need-no-session-requires
-no-session-requires c κs = search needs
-
 returns : tie.Need-returns
 unfolding noReplay
 returns c = rw (c .no-session .ensures)
 
 pub no-replay-spec : {M : Type 1} → statement M
-no-replay-spec = tie.close (tie.spec no-session-requires returns)
+no-replay-spec = tie.close (tie.spec (λ c κs. search needs) returns)

@@ -5,11 +5,8 @@ use borrow.Author.Needs.{needs}
 use Rattle.report.proofs.no_session.Statement.{statement}
 use Rattle.report.proofs.no_session.Tie as tie
 
-refused-setup-requires : tie.Need-refused-setup-requires
-refused-setup-requires c κs = search needs
-
 returns : tie.Need-returns
 returns c = ap (λ (p : Prepared). p .session) (c .before .refused-setup .ensures)
 
 pub no-session-spec : {M : Type 1} → statement M
-no-session-spec = tie.close (tie.spec refused-setup-requires returns)
+no-session-spec = tie.close (tie.spec (λ c κs. search needs) returns)

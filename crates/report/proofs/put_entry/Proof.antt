@@ -14,38 +14,17 @@ use borrow.Author.Needs.{needs}
 use Rattle.report.proofs.put_entry.Statement.{statement}
 use Rattle.report.proofs.put_entry.Tie as tie
 
-put-entry-line-requires : tie.Need-put-entry-line-requires
-put-entry-line-requires c κs = search needs
-
-same-length : tie.Need-same-length
-same-length c = search needs
-
 returns : tie.Need-returns
 returns c =
     let a = c .before .before .before .before .before .before .before .before .args in
     let d = doneOf (a .taken) (a .answer) (a .to-server .now) (a .to-client .now) in
     written (a .out .now) 0 (sym (at-zero (a .number) (a .taken) (a .answer) (a .to-server .now) (a .to-client .now) (c .before .before .before .before .if1 .taken))) (c .before .before .put-entry-line .ensures)
 
-line-fits-requires : tie.Need-line-fits-requires
-line-fits-requires c κs = search needs
-
 returns-2 : tie.Need-returns-2
 returns-2 c =
     let a = c .before .before .before .before .before .before .args in
     no-room (a .out .now) 0 (entryText (a .number) (doneOf (a .taken) (a .answer) (a .to-server .now) (a .to-client .now)))
     (omega (arith, leb-false _ (length (a .out .now)) (sym (c .before .line-fits .ensures) ∙ not-true _ (c .if2 .taken)), stop-length (a .number) (doneOf (a .taken) (a .answer) (a .to-server .now) (a .to-client .now)) (other (a .taken) (a .answer) (a .to-server .now) (a .to-client .now) (c .before .before .if1 .left))))
-
-put-entry-line-requires-2 : tie.Need-put-entry-line-requires-2
-put-entry-line-requires-2 c κs = search needs
-
-slice-aggregate-put : tie.Need-slice-aggregate-put
-slice-aggregate-put c = search needs
-
-put-requires : tie.Need-put-requires
-put-requires c κs = search needs
-
-same-length-2 : tie.Need-same-length-2
-same-length-2 c = search needs
 
 returns-3 : tie.Need-returns-3
 returns-3 c =
@@ -61,13 +40,13 @@ pub put-entry-spec : {M : Type 1} → statement M
 put-entry-spec =
     tie.close
     (tie.spec
-    put-entry-line-requires
-    same-length
+    (λ c κs. search needs)
+    (λ c. search needs)
     returns
-    line-fits-requires
+    (λ c κs. search needs)
     returns-2
-    put-entry-line-requires-2
-    slice-aggregate-put
-    put-requires
-    same-length-2
+    (λ c κs. search needs)
+    (λ c. search needs)
+    (λ c κs. search needs)
+    (λ c. search needs)
     returns-3)

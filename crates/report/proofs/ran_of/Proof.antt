@@ -4,15 +4,9 @@ use borrow.Author.Needs.{needs}
 use Rattle.report.proofs.ran_of.Statement.{statement}
 use Rattle.report.proofs.ran_of.Tie as tie
 
-cast-t5 : tie.Need-cast-t5
-cast-t5 c = search needs
-
-number-of-requires : tie.Need-number-of-requires
-number-of-requires c κs = search needs
-
 returns : tie.Need-returns
 unfolding ranOf
 returns c = rw (c .number-of .ensures)
 
 pub ran-of-spec : {M : Type 1} → statement M
-ran-of-spec = tie.close (tie.spec cast-t5 number-of-requires returns)
+ran-of-spec = tie.close (tie.spec (λ c. search needs) (λ c κs. search needs) returns)

@@ -10,28 +10,16 @@ use borrow.Author.Needs.{needs}
 use Rattle.report.proofs.run_entry.Statement.{statement}
 use Rattle.report.proofs.run_entry.Tie as tie
 
-set-up-requires : tie.Need-set-up-requires
-set-up-requires c κs = search needs
-
 returns : tie.Need-returns
 returns c =
     let a = c .before .before .before .before .before .args in
     kept-setup _ (a .body .now) (a .to-server .now) (a .to-client .now) (sets-up (a .session) (a .kind) (a .body .now) (c .before .if1 .taken)) (c .set-up .ensures)
-
-end-requires : tie.Need-end-requires
-end-requires c κs = search needs
 
 ran-of-requires : tie.Need-ran-of-requires
 ran-of-requires c κs =
     let k = c .before .before .before .before .end in
     let a = c .before .before .before .before .before .before .before .before .before .before .before .before .args in
     omega (arith, told-ended (a .session) (a .kind - 2) (length (a .to-server .now)) (length (a .to-client .now)) .taken, ap (λ (x : Called). x .taken) (k .ensures .0))
-
-same-length : tie.Need-same-length
-same-length c = search needs
-
-same-length-2 : tie.Need-same-length-2
-same-length-2 c = search needs
 
 returns-2 : tie.Need-returns-2
 returns-2 c =
@@ -46,21 +34,12 @@ returns-2 c =
     (k .ensures .1 .0)
     (k .ensures .1 .1)
 
-arrive-requires : tie.Need-arrive-requires
-arrive-requires c κs = search needs
-
 ran-of-requires-2 : tie.Need-ran-of-requires-2
 ran-of-requires-2 c κs =
     let k = c .before .before .before .before .arrive in
     let pre = c .before .before .before .before .before .before .before .before .before .before .before .before .pre in
     let a = c .before .before .before .before .before .before .before .before .before .before .before .before .args in
     omega (arith, told-arrived (a .session) (a .kind) (a .body .now) (length (a .to-server .now)) (length (a .to-client .now)) .taken, ap (λ (x : Called). x .taken) (k .ensures .0), pre .0)
-
-same-length-3 : tie.Need-same-length-3
-same-length-3 c = search needs
-
-same-length-4 : tie.Need-same-length-4
-same-length-4 c = search needs
 
 returns-3 : tie.Need-returns-3
 returns-3 c =
@@ -79,15 +58,15 @@ pub run-entry-spec : {M : Type 1} → statement M
 run-entry-spec =
     tie.close
     (tie.spec
-    set-up-requires
+    (λ c κs. search needs)
     returns
-    end-requires
+    (λ c κs. search needs)
     ran-of-requires
-    same-length
-    same-length-2
+    (λ c. search needs)
+    (λ c. search needs)
     returns-2
-    arrive-requires
+    (λ c κs. search needs)
     ran-of-requires-2
-    same-length-3
-    same-length-4
+    (λ c. search needs)
+    (λ c. search needs)
     returns-3)

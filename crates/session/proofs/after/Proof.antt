@@ -6,9 +6,6 @@ use Rattle.session.proofs.Outcomes.{advanced}
 use Rattle.session.proofs.after.Statement.{statement}
 use Rattle.session.proofs.after.Tie as tie
 
-counts-then-requires : tie.Need-counts-then-requires
-counts-then-requires c κs = search needs
-
 returns : tie.Need-returns
 returns c =
     let a = c .before .before .before .before .before .before .args in
@@ -17,4 +14,4 @@ returns c =
     (counts .0) (counts .1)
 
 pub after-spec : {M : Type 1} → statement M
-after-spec = tie.close (tie.spec counts-then-requires returns)
+after-spec = tie.close (tie.spec (λ c κs. search needs) returns)

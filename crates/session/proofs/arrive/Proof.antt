@@ -14,71 +14,11 @@ use Rattle.session.proofs.Outcomes.{side-tested, turned-away, arrives}
 use Rattle.session.proofs.arrive.Statement.{statement}
 use Rattle.session.proofs.arrive.Tie as tie
 
-refusal-of-requires : tie.Need-refusal-of-requires
-refusal-of-requires c κs = search needs
-
-enum-known-answer : tie.Need-enum-known-answer
-enum-known-answer c = search needs
-
-refused-requires : tie.Need-refused-requires
-refused-requires c κs = search needs
-
 returns : tie.Need-returns
 unfolding arrived
 returns c =
     let a = c .before .before .before .before .before .before .before .before .args in
     turned-away (a .session) _ _ _ (a .to-server .now) (a .to-client .now) (c .before .before .before .before .refusal-of .ensures) (c .before .before .answer .given .1) (c .refused .ensures)
-
-enum-told : tie.Need-enum-told
-enum-told c = search needs
-
-laid-requires : tie.Need-laid-requires
-laid-requires c κs = search needs
-
-slice-aggregate-take : tie.Need-slice-aggregate-take
-slice-aggregate-take c = search needs
-
-take-requires : tie.Need-take-requires
-take-requires c κs = search needs
-
-sub-sixteen : tie.Need-sub-sixteen
-sub-sixteen c = search needs
-
-part-sixteen-start : tie.Need-part-sixteen-start
-part-sixteen-start c = search needs
-
-part-sixteen-end : tie.Need-part-sixteen-end
-part-sixteen-end c = search needs
-
-sixteen-requires : tie.Need-sixteen-requires
-sixteen-requires c κs = search needs
-
-sub-held-line : tie.Need-sub-held-line
-sub-held-line c = search needs
-
-part-held-line-start : tie.Need-part-held-line-start
-part-held-line-start c = search needs
-
-part-held-line-end : tie.Need-part-held-line-end
-part-held-line-end c = search needs
-
-held-line-requires : tie.Need-held-line-requires
-held-line-requires c κs = search needs
-
-sub-held-line-2 : tie.Need-sub-held-line-2
-sub-held-line-2 c = search needs
-
-part-held-line-start-2 : tie.Need-part-held-line-start-2
-part-held-line-start-2 c = search needs
-
-part-held-line-end-2 : tie.Need-part-held-line-end-2
-part-held-line-end-2 c = search needs
-
-held-line-requires-2 : tie.Need-held-line-requires-2
-held-line-requires-2 c κs = search needs
-
-after-requires : tie.Need-after-requires
-after-requires c κs = search needs
 
 same-length : tie.Need-same-length
 same-length c = c .before .before .before .before .before .before .before .before .before .before .before .before .before .before .before .before .before .take .kept .1 .1 .1 .1 .1 .0
@@ -117,27 +57,27 @@ pub arrive-spec : {M : Type 1} → statement M
 arrive-spec =
     tie.close
     (tie.spec
-    refusal-of-requires
-    enum-known-answer
-    refused-requires
+    (λ c κs. search needs)
+    (λ c. search needs)
+    (λ c κs. search needs)
     returns
-    enum-told
-    laid-requires
-    slice-aggregate-take
-    take-requires
-    sub-sixteen
-    part-sixteen-start
-    part-sixteen-end
-    sixteen-requires
-    sub-held-line
-    part-held-line-start
-    part-held-line-end
-    held-line-requires
-    sub-held-line-2
-    part-held-line-start-2
-    part-held-line-end-2
-    held-line-requires-2
-    after-requires
+    (λ c. search needs)
+    (λ c κs. search needs)
+    (λ c. search needs)
+    (λ c κs. search needs)
+    (λ c. search needs)
+    (λ c. search needs)
+    (λ c. search needs)
+    (λ c κs. search needs)
+    (λ c. search needs)
+    (λ c. search needs)
+    (λ c. search needs)
+    (λ c κs. search needs)
+    (λ c. search needs)
+    (λ c. search needs)
+    (λ c. search needs)
+    (λ c κs. search needs)
+    (λ c κs. search needs)
     same-length
     same-length-2
     returns-2)

@@ -4,18 +4,6 @@ use Rattle.session.proofs.Wrapping.{wrapped-sum}
 use Rattle.session.proofs.counted.Statement.{statement}
 use Rattle.session.proofs.counted.Tie as tie
 
-low-half-requires : tie.Need-low-half-requires
-low-half-requires c κs = search needs
-
-wrapping-add-u32-requires : tie.Need-wrapping-add-u32-requires
-wrapping-add-u32-requires c κs = search needs
-
-low-half-requires-2 : tie.Need-low-half-requires-2
-low-half-requires-2 c κs = search needs
-
-wrapping-add-u32-requires-2 : tie.Need-wrapping-add-u32-requires-2
-wrapping-add-u32-requires-2 c κs = search needs
-
 returns : tie.Need-returns
 returns c =
     let a = c .before .before .before .before .args in
@@ -25,8 +13,8 @@ pub counted-spec : {M : Type 1} → statement M
 counted-spec =
     tie.close
     (tie.spec
-    low-half-requires
-    wrapping-add-u32-requires
-    low-half-requires-2
-    wrapping-add-u32-requires-2
+    (λ c κs. search needs)
+    (λ c κs. search needs)
+    (λ c κs. search needs)
+    (λ c κs. search needs)
     returns)

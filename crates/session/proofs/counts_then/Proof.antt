@@ -6,12 +6,6 @@ use Rattle.session.proofs.Outcomes.{counts-by}
 use Rattle.session.proofs.counts_then.Statement.{statement}
 use Rattle.session.proofs.counts_then.Tie as tie
 
-counted-requires : tie.Need-counted-requires
-counted-requires c κs = search needs
-
-counted-requires-2 : tie.Need-counted-requires-2
-counted-requires-2 c κs = search needs
-
 returns : tie.Need-returns
 returns c =
     let a = c .before .before .before .args in
@@ -23,4 +17,4 @@ returns c =
     (c .before .before .if1 .came)
 
 pub counts-then-spec : {M : Type 1} → statement M
-counts-then-spec = tie.close (tie.spec counted-requires counted-requires-2 returns)
+counts-then-spec = tie.close (tie.spec (λ c κs. search needs) (λ c κs. search needs) returns)

@@ -9,17 +9,11 @@ use Rattle.session.proofs.Outcomes.{client-ended, server-ended, turned-
 use Rattle.session.proofs.end.Statement.{statement}
 use Rattle.session.proofs.end.Tie as tie
 
-enum-known-answer : tie.Need-enum-known-answer
-enum-known-answer c = search needs
-
 returns : tie.Need-returns
 unfolding endCalled
 returns c =
     let a = c .before .before .before .before .before .before .before .args in
     turned-away (a .session) _ _ _ (a .to-server .now) (a .to-client .now) (c .before .before .before .before .refusal-of .ensures) (c .before .before .answer .given .1) (c .refused .ensures)
-
-enum-told : tie.Need-enum-told
-enum-told c = search needs
 
 -- nothing refuses the end
 module _ (c : tie.After-enum-told) where
@@ -46,10 +40,10 @@ end-spec =
     tie.close
     (tie.spec
     (λ c κs. search needs)
-    enum-known-answer
+    (λ c. search needs)
     (λ c κs. search needs)
     returns
-    enum-told
+    (λ c. search needs)
     (λ c κs. search needs)
     (λ c. search needs)
     returns-2

@@ -42,9 +42,6 @@ returns c =
     let m = c .before .before in
     no-room (s m) (d m) (out m) (measured m) (c .before .if1 .taken) (c .refused .ensures)
 
-same-length : tie.Need-same-length
-same-length c = search needs
-
 returns-2 : tie.Need-returns-2
 unfolding endStep
 returns-2 c =
@@ -70,5 +67,5 @@ end-held-spec =
     (λ c κs. search needs)
     (λ c κs. search needs)
     (λ c κs. search needs)
-    same-length
+    (λ c. search needs)
     returns-2)

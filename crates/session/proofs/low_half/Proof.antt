@@ -5,12 +5,9 @@ use Rattle.rules.specs.Answers.{wrapped}
 use Rattle.session.proofs.low_half.Statement.{statement}
 use Rattle.session.proofs.low_half.Tie as tie
 
-cast-result : tie.Need-cast-result
-cast-result c = search needs
-
 returns : tie.Need-returns
 unfolding wrapped
 returns c = refl
 
 pub low-half-spec : {M : Type 1} → statement M
-low-half-spec = tie.close (tie.spec cast-result returns)
+low-half-spec = tie.close (tie.spec (λ c. search needs) returns)

@@ -10,9 +10,6 @@ use Rattle.session.proofs.offset.Tie as tie
 returns : tie.Need-returns
 returns c = other-direction (c .before .args .session) (c .before .args .direction) (c .if1 .taken)
 
-wrapping-sub-u32-requires : tie.Need-wrapping-sub-u32-requires
-wrapping-sub-u32-requires c κs = search needs
-
 returns-2 : tie.Need-returns-2
 returns-2 c =
     let a = c .before .before .before .before .args in
@@ -23,4 +20,4 @@ returns-2 c =
     (c .before .if2 .came)
 
 pub offset-spec : {M : Type 1} → statement M
-offset-spec = tie.close (tie.spec returns wrapping-sub-u32-requires returns-2)
+offset-spec = tie.close (tie.spec returns (λ c κs. search needs) returns-2)

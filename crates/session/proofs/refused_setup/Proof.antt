@@ -4,12 +4,9 @@ use Rattle.session.specs.Calls.{deadSession}
 use Rattle.session.proofs.refused_setup.Statement.{statement}
 use Rattle.session.proofs.refused_setup.Tie as tie
 
-start-requires : tie.Need-start-requires
-start-requires c κs = search needs
-
 returns : tie.Need-returns
 unfolding deadSession
 returns c = rw (c .start .ensures)
 
 pub refused-setup-spec : {M : Type 1} → statement M
-refused-setup-spec = tie.close (tie.spec start-requires returns)
+refused-setup-spec = tie.close (tie.spec (λ c κs. search needs) returns)

@@ -6,22 +6,13 @@ use Rattle.session.proofs.Flags.{undefined-flag, unsupported, fresh}
 use Rattle.session.proofs.setup.Statement.{statement}
 use Rattle.session.proofs.setup.Tie as tie
 
-refused-setup-requires : tie.Need-refused-setup-requires
-refused-setup-requires c κs = search needs
-
 returns : tie.Need-returns
 returns c = let a = c .before .before .args in c .refused-setup .ensures ∙ undefined-flag (a .setup) refl (c .before .if1 .taken)
-
-refused-setup-requires-2 : tie.Need-refused-setup-requires-2
-refused-setup-requires-2 c κs = search needs
 
 returns-2 : tie.Need-returns-2
 returns-2 c =
     let a = c .before .before .before .before .args in
     c .refused-setup2 .ensures ∙ unsupported (a .setup) refl (c .before .before .before .if1 .left) (c .before .before .if2 .taken) (c .before .if3 .taken)
-
-start-requires : tie.Need-start-requires
-start-requires c κs = search needs
 
 returns-3 : tie.Need-returns-3
 returns-3 c =
@@ -34,9 +25,9 @@ pub setup-spec : {M : Type 1} → statement M
 setup-spec =
     tie.close
     (tie.spec
-    refused-setup-requires
+    (λ c κs. search needs)
     returns
-    refused-setup-requires-2
+    (λ c κs. search needs)
     returns-2
-    start-requires
+    (λ c κs. search needs)
     returns-3)

@@ -6,30 +6,6 @@ use Rattle.upstream.proofs.Places.{client-place, client-flowing}
 use Rattle.upstream.proofs.client_effect.Statement.{statement}
 use Rattle.upstream.proofs.client_effect.Tie as tie
 
-enum-told : tie.Need-enum-told
-enum-told c = search needs
-
-hold-effect-requires : tie.Need-hold-effect-requires
-hold-effect-requires c κs = search needs
-
-enum-told-2 : tie.Need-enum-told-2
-enum-told-2 c = search needs
-
-flow-effect-requires : tie.Need-flow-effect-requires
-flow-effect-requires c κs = search needs
-
-enum-told-3 : tie.Need-enum-told-3
-enum-told-3 c = search needs
-
-unowed-requires : tie.Need-unowed-requires
-unowed-requires c κs = search needs
-
-enum-told-4 : tie.Need-enum-told-4
-enum-told-4 c = search needs
-
-unowed-requires-2 : tie.Need-unowed-requires-2
-unowed-requires-2 c κs = search needs
-
 returns : tie.Need-returns
 returns c = c .hold-effect .ensures ∙ client-place _ _ _ _ _ (c .before .enum-told .given .1)
 
@@ -48,14 +24,14 @@ pub client-effect-spec : {M : Type 1} → statement M
 client-effect-spec =
     tie.close
     (tie.spec
-    enum-told
-    hold-effect-requires
-    enum-told-2
-    flow-effect-requires
-    enum-told-3
-    unowed-requires
-    enum-told-4
-    unowed-requires-2
+    (λ c. search needs)
+    (λ c κs. search needs)
+    (λ c. search needs)
+    (λ c κs. search needs)
+    (λ c. search needs)
+    (λ c κs. search needs)
+    (λ c. search needs)
+    (λ c κs. search needs)
     returns
     returns-2
     returns-3

@@ -5,21 +5,6 @@ use Rattle.upstream.specs.Upstream.{commandEffect}
 use Rattle.upstream.proofs.command_gives.Statement.{statement}
 use Rattle.upstream.proofs.command_gives.Tie as tie
 
-enum-told : tie.Need-enum-told
-enum-told c = search needs
-
-enum-told-2 : tie.Need-enum-told-2
-enum-told-2 c = search needs
-
-enum-known-command : tie.Need-enum-known-command
-enum-known-command c = search needs
-
-enum-told-3 : tie.Need-enum-told-3
-enum-told-3 c = search needs
-
-enum-told-4 : tie.Need-enum-told-4
-enum-told-4 c = search needs
-
 returns : tie.Need-returns
 unfolding commandEffect
 returns c = search needs
@@ -44,11 +29,11 @@ pub command-gives-spec : {M : Type 1} → statement M
 command-gives-spec =
     tie.close
     (tie.spec
-    enum-told
-    enum-told-2
-    enum-known-command
-    enum-told-3
-    enum-told-4
+    (λ c. search needs)
+    (λ c. search needs)
+    (λ c. search needs)
+    (λ c. search needs)
+    (λ c. search needs)
     returns
     returns-2
     returns-3

@@ -9,11 +9,8 @@ use Rattle.upstream.proofs.flow_effect.Tie as tie
 returns : tie.Need-returns
 returns c = chosen _ refl (eq-eqb _ _ (c .if1 .taken)) refl
 
-unowed-requires : tie.Need-unowed-requires
-unowed-requires c κs = search needs
-
 returns-2 : tie.Need-returns-2
 returns-2 c = passed _ refl (ne-eqb _ _ (c .before .if1 .left)) (c .unowed .ensures)
 
 pub flow-effect-spec : {M : Type 1} → statement M
-flow-effect-spec = tie.close (tie.spec returns unowed-requires returns-2)
+flow-effect-spec = tie.close (tie.spec returns (λ c κs. search needs) returns-2)

@@ -7,22 +7,10 @@ use Rattle.upstream.specs.Upstream.{judgedEffect, joinEffect, placeEffec
 use Rattle.upstream.proofs.hold_effect.Statement.{statement}
 use Rattle.upstream.proofs.hold_effect.Tie as tie
 
-first-octets-requires : tie.Need-first-octets-requires
-first-octets-requires c κs = search needs
-
-command-requires : tie.Need-command-requires
-command-requires c κs = search needs
-
-judged-effect-requires : tie.Need-judged-effect-requires
-judged-effect-requires c κs = search needs
-
 returns : tie.Need-returns
 unfolding placeEffect
 returns c = rw (eq-eqb _ _ (c .before .before .if1 .taken))
     (c .judged-effect .ensures ∙ ap (judgedEffect _) (c .before .command .ensures ∙ ap (command _ _) (c .before .before .before .first-octets .ensures)))
-
-join-effect-requires : tie.Need-join-effect-requires
-join-effect-requires c κs = search needs
 
 returns-2 : tie.Need-returns-2
 unfolding placeEffect
@@ -32,9 +20,9 @@ pub hold-effect-spec : {M : Type 1} → statement M
 hold-effect-spec =
     tie.close
     (tie.spec
-    first-octets-requires
-    command-requires
-    judged-effect-requires
+    (λ c κs. search needs)
+    (λ c κs. search needs)
+    (λ c κs. search needs)
     returns
-    join-effect-requires
+    (λ c κs. search needs)
     returns-2)

@@ -7,28 +7,16 @@ use Rattle.octets.proofs.Choices.{chosen, passed}
 use Rattle.upstream.proofs.join_effect.Statement.{statement}
 use Rattle.upstream.proofs.join_effect.Tie as tie
 
-is-held-requires : tie.Need-is-held-requires
-is-held-requires c κs = search needs
-
 add-unowed : tie.Need-add-unowed
 add-unowed c = omega (arith, c .before .is-held .ensures .1 (c .if1 .taken))
-
-unowed-requires : tie.Need-unowed-requires
-unowed-requires c κs = search needs
 
 returns : tie.Need-returns
 unfolding joinEffect
 returns c = chosen _ (c .before .before .is-held .ensures .0) (c .before .if1 .taken) (c .unowed .ensures)
 
-starts-auth-requires : tie.Need-starts-auth-requires
-starts-auth-requires c κs = search needs
-
 returns-2 : tie.Need-returns-2
 unfolding joinEffect
 returns-2 c = passed _ (c .before .before .before .is-held .ensures .0) (c .before .before .if1 .left) (chosen _ (c .before .starts-auth .ensures) (c .if2 .taken) refl)
-
-unowed-requires-2 : tie.Need-unowed-requires-2
-unowed-requires-2 c κs = search needs
 
 returns-3 : tie.Need-returns-3
 unfolding joinEffect
@@ -39,11 +27,11 @@ pub join-effect-spec : {M : Type 1} → statement M
 join-effect-spec =
     tie.close
     (tie.spec
-    is-held-requires
+    (λ c κs. search needs)
     add-unowed
-    unowed-requires
+    (λ c κs. search needs)
     returns
-    starts-auth-requires
+    (λ c κs. search needs)
     returns-2
-    unowed-requires-2
+    (λ c κs. search needs)
     returns-3)

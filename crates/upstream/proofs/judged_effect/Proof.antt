@@ -4,18 +4,6 @@ use Rattle.upstream.specs.Upstream.{judgedEffect}
 use Rattle.upstream.proofs.judged_effect.Statement.{statement}
 use Rattle.upstream.proofs.judged_effect.Tie as tie
 
-command-gives-requires : tie.Need-command-gives-requires
-command-gives-requires c κs = search needs
-
-command-place-requires : tie.Need-command-place-requires
-command-place-requires c κs = search needs
-
-switches-after-requires : tie.Need-switches-after-requires
-switches-after-requires c κs = search needs
-
-command-owes-requires : tie.Need-command-owes-requires
-command-owes-requires c κs = search needs
-
 returns : tie.Need-returns
 unfolding judgedEffect
 returns c = cc
@@ -24,8 +12,8 @@ pub judged-effect-spec : {M : Type 1} → statement M
 judged-effect-spec =
     tie.close
     (tie.spec
-    command-gives-requires
-    command-place-requires
-    switches-after-requires
-    command-owes-requires
+    (λ c κs. search needs)
+    (λ c κs. search needs)
+    (λ c κs. search needs)
+    (λ c κs. search needs)
     returns)

@@ -5,24 +5,6 @@ use Rattle.rules.specs.Commands.{commandSwitches}
 use Rattle.upstream.proofs.switches_after.Statement.{statement}
 use Rattle.upstream.proofs.switches_after.Tie as tie
 
-enum-told : tie.Need-enum-told
-enum-told c = search needs
-
-enum-told-2 : tie.Need-enum-told-2
-enum-told-2 c = search needs
-
-enum-told-3 : tie.Need-enum-told-3
-enum-told-3 c = search needs
-
-enum-known-command : tie.Need-enum-known-command
-enum-known-command c = search needs
-
-switches-answered-requires : tie.Need-switches-answered-requires
-switches-answered-requires c κs = search needs
-
-enum-told-4 : tie.Need-enum-told-4
-enum-told-4 c = search needs
-
 returns : tie.Need-returns
 unfolding commandSwitches
 returns c = search needs
@@ -47,12 +29,12 @@ pub switches-after-spec : {M : Type 1} → statement M
 switches-after-spec =
     tie.close
     (tie.spec
-    enum-told
-    enum-told-2
-    enum-told-3
-    enum-known-command
-    switches-answered-requires
-    enum-told-4
+    (λ c. search needs)
+    (λ c. search needs)
+    (λ c. search needs)
+    (λ c. search needs)
+    (λ c κs. search needs)
+    (λ c. search needs)
     returns
     returns-2
     returns-3

@@ -4,15 +4,6 @@ use Rattle.rules.specs.Commands.{answerSwitches}
 use Rattle.upstream.proofs.switches_answered.Statement.{statement}
 use Rattle.upstream.proofs.switches_answered.Tie as tie
 
-enum-told : tie.Need-enum-told
-enum-told c = search needs
-
-enum-told-2 : tie.Need-enum-told-2
-enum-told-2 c = search needs
-
-enum-known-answer : tie.Need-enum-known-answer
-enum-known-answer c = search needs
-
 returns : tie.Need-returns
 unfolding answerSwitches
 returns c = search needs
@@ -27,4 +18,4 @@ returns-3 c = search needs
 
 pub switches-answered-spec : {M : Type 1} → statement M
 switches-answered-spec =
-    tie.close (tie.spec enum-told enum-told-2 enum-known-answer returns returns-2 returns-3)
+    tie.close (tie.spec (λ c. search needs) (λ c. search needs) (λ c. search needs) returns returns-2 returns-3)

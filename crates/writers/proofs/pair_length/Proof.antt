@@ -6,18 +6,6 @@ use Rattle.rules.specs.Commands.{commas}
 use Rattle.writers.proofs.pair_length.Statement.{statement}
 use Rattle.writers.proofs.pair_length.Tie as tie
 
-decimal-length-requires : tie.Need-decimal-length-requires
-decimal-length-requires c κs = search needs
-
-add-result : tie.Need-add-result
-add-result c = search needs
-
-decimal-length-requires-2 : tie.Need-decimal-length-requires-2
-decimal-length-requires-2 c κs = search needs
-
-add-result-2 : tie.Need-add-result-2
-add-result-2 c = search needs
-
 returns : tie.Need-returns
 unfolding commas
 returns c =
@@ -26,4 +14,4 @@ returns c =
 pub pair-length-spec : {M : Type 1} → statement M
 pair-length-spec =
     tie.close
-    (tie.spec decimal-length-requires add-result decimal-length-requires-2 add-result-2 returns)
+    (tie.spec (λ c κs. search needs) (λ c. search needs) (λ c κs. search needs) (λ c. search needs) returns)

@@ -4,18 +4,9 @@ use Rattle.rules.specs.Commands.{pasvLine}
 use Rattle.writers.proofs.put_pasv.Statement.{statement}
 use Rattle.writers.proofs.put_pasv.Tie as tie
 
-slice-aggregate-put : tie.Need-slice-aggregate-put
-slice-aggregate-put c = search needs
-
-put-requires : tie.Need-put-requires
-put-requires c κs = search needs
-
-same-length : tie.Need-same-length
-same-length c = search needs
-
 returns : tie.Need-returns
 unfolding pasvLine
 returns c = c .before .before .put .ensures
 
 pub put-pasv-spec : {M : Type 1} → statement M
-put-pasv-spec = tie.close (tie.spec slice-aggregate-put put-requires same-length returns)
+put-pasv-spec = tie.close (tie.spec (λ c. search needs) (λ c κs. search needs) (λ c. search needs) returns)

@@ -12,62 +12,11 @@ use Rattle.writers.proofs.Lines.{port-pairs}
 use Rattle.writers.proofs.put_port_line.Statement.{statement}
 use Rattle.writers.proofs.put_port_line.Tie as tie
 
-port-line-length-requires : tie.Need-port-line-length-requires
-port-line-length-requires c κs = search needs
-
-has-room-requires : tie.Need-has-room-requires
-has-room-requires c κs = search needs
-
 returns : tie.Need-returns
 returns c =
     let a = c .before .before .before .before .args in
     refused (a .out .now) (a .at) (portLine (a .t3) (a .port)) (c .before .has-room .ensures)
     (c .before .before .port-line-length .ensures) (c .if1 .taken)
-
-cast-high : tie.Need-cast-high
-cast-high c = search needs
-
-cast-low : tie.Need-cast-low
-cast-low c = search needs
-
-slice-aggregate-put : tie.Need-slice-aggregate-put
-slice-aggregate-put c = search needs
-
-put-requires : tie.Need-put-requires
-put-requires c κs = search needs
-
-array-read-put-pair : tie.Need-array-read-put-pair
-array-read-put-pair c = search needs
-
-array-read-put-pair-2 : tie.Need-array-read-put-pair-2
-array-read-put-pair-2 c = search needs
-
-slice-aggregate-put-pair : tie.Need-slice-aggregate-put-pair
-slice-aggregate-put-pair c = search needs
-
-put-pair-requires : tie.Need-put-pair-requires
-put-pair-requires c κs = search needs
-
-array-read-put-pair-3 : tie.Need-array-read-put-pair-3
-array-read-put-pair-3 c = search needs
-
-array-read-put-pair-4 : tie.Need-array-read-put-pair-4
-array-read-put-pair-4 c = search needs
-
-slice-aggregate-put-pair-2 : tie.Need-slice-aggregate-put-pair-2
-slice-aggregate-put-pair-2 c = search needs
-
-put-pair-requires-2 : tie.Need-put-pair-requires-2
-put-pair-requires-2 c κs = search needs
-
-slice-aggregate-put-pair-3 : tie.Need-slice-aggregate-put-pair-3
-slice-aggregate-put-pair-3 c = search needs
-
-put-pair-requires-3 : tie.Need-put-pair-requires-3
-put-pair-requires-3 c κs = search needs
-
-same-length : tie.Need-same-length
-same-length c = search needs
 
 returns-2 : tie.Need-returns-2
 returns-2 c =
@@ -95,22 +44,22 @@ pub put-port-line-spec : {M : Type 1} → statement M
 put-port-line-spec =
     tie.close
     (tie.spec
-    port-line-length-requires
-    has-room-requires
+    (λ c κs. search needs)
+    (λ c κs. search needs)
     returns
-    cast-high
-    cast-low
-    slice-aggregate-put
-    put-requires
-    array-read-put-pair
-    array-read-put-pair-2
-    slice-aggregate-put-pair
-    put-pair-requires
-    array-read-put-pair-3
-    array-read-put-pair-4
-    slice-aggregate-put-pair-2
-    put-pair-requires-2
-    slice-aggregate-put-pair-3
-    put-pair-requires-3
-    same-length
+    (λ c. search needs)
+    (λ c. search needs)
+    (λ c. search needs)
+    (λ c κs. search needs)
+    (λ c. search needs)
+    (λ c. search needs)
+    (λ c. search needs)
+    (λ c κs. search needs)
+    (λ c. search needs)
+    (λ c. search needs)
+    (λ c. search needs)
+    (λ c κs. search needs)
+    (λ c. search needs)
+    (λ c κs. search needs)
+    (λ c. search needs)
     returns-2)

@@ -76,107 +76,11 @@ module _ (c : tie.After-hold-run) where
 few : (c : tie.After-removed) → c .removed .result ≤ owed (c .before .before .before .before .before .before .before .before .before .before .before)
 few c = omega (arith, c .removed .ensures, removes-within (c .before .reply-line .result) (owed (c .before .before .before .before .before .before .before .before .before .before .before)))
 
-sub-hold-run : tie.Need-sub-hold-run
-sub-hold-run c = search needs
-
-part-hold-run-start : tie.Need-part-hold-run-start
-part-hold-run-start c = search needs
-
-part-hold-run-end : tie.Need-part-hold-run-end
-part-hold-run-end c = search needs
-
-hold-run-requires : tie.Need-hold-run-requires
-hold-run-requires c κs = search needs
-
-sub-n : tie.Need-sub-n
-sub-n c = search needs
-
-add-n : tie.Need-add-n
-add-n c = search needs
-
-sub-may-end : tie.Need-sub-may-end
-sub-may-end c = search needs
-
-may-end-requires : tie.Need-may-end-requires
-may-end-requires c κs = search needs
-
-sub-text : tie.Need-sub-text
-sub-text c = search needs
-
-part-text-start : tie.Need-part-text-start
-part-text-start c = search needs
-
-part-text-end : tie.Need-part-text-end
-part-text-end c = search needs
-
-add-text : tie.Need-add-text
-add-text c = search needs
-
-sub-text-2 : tie.Need-sub-text-2
-sub-text-2 c = search needs
-
-part-text-start-2 : tie.Need-part-text-start-2
-part-text-start-2 c = search needs
-
-part-text-end-2 : tie.Need-part-text-end-2
-part-text-end-2 c = search needs
-
 text-requires : tie.Need-text-requires
 text-requires c κs = read (c .before .before .before .before .before .before .before)
 
-content-requires : tie.Need-content-requires
-content-requires c κs = search needs
-
-reply-line-requires : tie.Need-reply-line-requires
-reply-line-requires c κs = search needs
-
-removed-requires : tie.Need-removed-requires
-removed-requires c κs = search needs
-
-sub-keeps-still : tie.Need-sub-keeps-still
-sub-keeps-still c = search needs
-
-part-keeps-still-start : tie.Need-part-keeps-still-start
-part-keeps-still-start c = search needs
-
-part-keeps-still-end : tie.Need-part-keeps-still-end
-part-keeps-still-end c = search needs
-
-keeps-still-requires : tie.Need-keeps-still-requires
-keeps-still-requires c κs = search needs
-
-sub-text-3 : tie.Need-sub-text-3
-sub-text-3 c = search needs
-
-part-text-start-3 : tie.Need-part-text-start-3
-part-text-start-3 c = search needs
-
-part-text-end-3 : tie.Need-part-text-end-3
-part-text-end-3 c = search needs
-
-add-text-2 : tie.Need-add-text-2
-add-text-2 c = search needs
-
-sub-text-4 : tie.Need-sub-text-4
-sub-text-4 c = search needs
-
-part-text-start-4 : tie.Need-part-text-start-4
-part-text-start-4 c = search needs
-
-part-text-end-4 : tie.Need-part-text-end-4
-part-text-end-4 c = search needs
-
 text-requires-2 : tie.Need-text-requires-2
 text-requires-2 c κs = read (c .before .before .before .before .before .before .before .before .before .before .before .before .before .before .before .before .before .before)
-
-put-line-requires : tie.Need-put-line-requires
-put-line-requires c κs = search needs
-
-sub-shift : tie.Need-sub-shift
-sub-shift c = search needs
-
-part-shift-start : tie.Need-part-shift-start
-part-shift-start c = search needs
 
 part-shift-end : tie.Need-part-shift-end
 part-shift-end c = omega (arith, all (c .before .before .before .before .before .before .before .before .before .before .before .before .before .before .before .before .before .before .before .before .before .before .before))
@@ -190,9 +94,6 @@ add-t42 c =
 sub-t37 : tie.Need-sub-t37
 sub-t37 c = few (c .before .before .before .before .before .before .before .before .before .before .before .before .before .before .before .before)
 
-goes-on-requires : tie.Need-goes-on-requires
-goes-on-requires c κs = search needs
-
 same-length : tie.Need-same-length
 same-length c =
     let run = c .before .before .before .before .before .before .before .before .before .before .before .before .before .before .before .before .before .before .before .before .before .before .before .before .before .before .before .before in
@@ -201,9 +102,6 @@ same-length c =
     put-size lentKinds mostOwed (after run) (c .before .before .before .shift .last .0) (omega (arith, all run))
     (ap length moved ∙ (length-shifted (kindsLent (after run)) _ _ (omega (arith, size, first run .owed)) ∙ size))
     ∙ (all run ∙ sym (run .before .before .before .before .before .pre .1 .1))
-
-same-length-2 : tie.Need-same-length-2
-same-length-2 c = search needs
 
 returns : tie.Need-returns
 returns c =
@@ -224,14 +122,8 @@ returns c =
       λ _. omega arith,
     )
 
-same-length-3 : tie.Need-same-length-3
-same-length-3 c = search needs
-
 returns-2 : tie.Need-returns-2
 returns-2 c = (first (c .before .before .before .before .before .before .before .before .before .before .before .before .before .before .before), λ e. absurd (false≢true e))
-
-same-length-4 : tie.Need-same-length-4
-same-length-4 c = search needs
 
 returns-3 : tie.Need-returns-3
 returns-3 c = (first (c .before .before .before .before), λ e. absurd (false≢true e))
@@ -240,49 +132,49 @@ pub server-line-spec : {M : Type 1} → statement M
 server-line-spec =
     tie.close
     (tie.spec
-    sub-hold-run
-    part-hold-run-start
-    part-hold-run-end
-    hold-run-requires
-    sub-n
-    add-n
-    sub-may-end
-    may-end-requires
-    sub-text
-    part-text-start
-    part-text-end
-    add-text
-    sub-text-2
-    part-text-start-2
-    part-text-end-2
+    (λ c. search needs)
+    (λ c. search needs)
+    (λ c. search needs)
+    (λ c κs. search needs)
+    (λ c. search needs)
+    (λ c. search needs)
+    (λ c. search needs)
+    (λ c κs. search needs)
+    (λ c. search needs)
+    (λ c. search needs)
+    (λ c. search needs)
+    (λ c. search needs)
+    (λ c. search needs)
+    (λ c. search needs)
+    (λ c. search needs)
     text-requires
-    content-requires
-    reply-line-requires
-    removed-requires
-    sub-keeps-still
-    part-keeps-still-start
-    part-keeps-still-end
-    keeps-still-requires
-    sub-text-3
-    part-text-start-3
-    part-text-end-3
-    add-text-2
-    sub-text-4
-    part-text-start-4
-    part-text-end-4
+    (λ c κs. search needs)
+    (λ c κs. search needs)
+    (λ c κs. search needs)
+    (λ c. search needs)
+    (λ c. search needs)
+    (λ c. search needs)
+    (λ c κs. search needs)
+    (λ c. search needs)
+    (λ c. search needs)
+    (λ c. search needs)
+    (λ c. search needs)
+    (λ c. search needs)
+    (λ c. search needs)
+    (λ c. search needs)
     text-requires-2
-    put-line-requires
-    sub-shift
-    part-shift-start
+    (λ c κs. search needs)
+    (λ c. search needs)
+    (λ c. search needs)
     part-shift-end
     (λ c κs. search needs)
     add-t42
     sub-t37
-    goes-on-requires
+    (λ c κs. search needs)
     same-length
-    same-length-2
+    (λ c. search needs)
     returns
-    same-length-3
+    (λ c. search needs)
     returns-2
-    same-length-4
+    (λ c. search needs)
     returns-3)

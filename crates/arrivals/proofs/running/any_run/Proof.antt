@@ -19,9 +19,6 @@ use Rattle.rules.specs.Lines.{mostHeld}
 use Rattle.arrivals.proofs.running.any_run.Statement.{statement}
 use Rattle.arrivals.proofs.running.any_run.Tie as tie
 
-queue-full-requires : tie.Need-queue-full-requires
-queue-full-requires c κs = search needs
-
 returns : tie.Need-returns
 returns c = λ f.
     let start = c .before .before .before .before .before .before in
@@ -53,12 +50,6 @@ client-run-requires c κs =
       ),
     )
 
-same-length : tie.Need-same-length
-same-length c = search needs
-
-same-length-2 : tie.Need-same-length-2
-same-length-2 c = search needs
-
 returns-2 : tie.Need-returns-2
 returns-2 c = λ f.
     let start = c .before .before .before .before .before .before .before .before .before .before .before .before .before .before in
@@ -84,18 +75,6 @@ part-server-run-start c =
     let size = c .before .before .before .before .before .before .before .pre .1 .1 in
     omega (arith, size)
 
-part-server-run-end : tie.Need-part-server-run-end
-part-server-run-end c = search needs
-
-server-run-requires : tie.Need-server-run-requires
-server-run-requires c κs = search needs
-
-same-length-3 : tie.Need-same-length-3
-same-length-3 c = search needs
-
-same-length-4 : tie.Need-same-length-4
-same-length-4 c = search needs
-
 returns-3 : tie.Need-returns-3
 returns-3 c = λ f.
     let start = c .before .before .before .before .before .before .before .before .before .before .before .before .before .before in
@@ -119,18 +98,18 @@ pub any-run-spec : {M : Type 1} → statement M
 any-run-spec =
     tie.close
     (tie.spec
-    queue-full-requires
+    (λ c κs. search needs)
     returns
     slice-relend-prefix-client-run
     slice-aggregate-client-run
     client-run-requires
-    same-length
-    same-length-2
+    (λ c. search needs)
+    (λ c. search needs)
     returns-2
     sub-server-run
     part-server-run-start
-    part-server-run-end
-    server-run-requires
-    same-length-3
-    same-length-4
+    (λ c. search needs)
+    (λ c κs. search needs)
+    (λ c. search needs)
+    (λ c. search needs)
     returns-3)

@@ -6,27 +6,6 @@ use borrow.Author.Needs.{needs}
 use Rattle.arrivals.proofs.running.client_flow.Statement.{statement}
 use Rattle.arrivals.proofs.running.client_flow.Tie as tie
 
-sub-no-lf-end : tie.Need-sub-no-lf-end
-sub-no-lf-end c = search needs
-
-no-lf-end-requires : tie.Need-no-lf-end-requires
-no-lf-end-requires c κs = search needs
-
-sub-put : tie.Need-sub-put
-sub-put c = search needs
-
-part-put-start : tie.Need-part-put-start
-part-put-start c = search needs
-
-part-put-end : tie.Need-part-put-end
-part-put-end c = search needs
-
-put-requires : tie.Need-put-requires
-put-requires c κs = search needs
-
-same-length : tie.Need-same-length
-same-length c = search needs
-
 returns : tie.Need-returns
 returns c = λ line f reply toClient h.
     let a = c .before .before .before .before .before .before .before .before .args in
@@ -42,11 +21,11 @@ pub client-flow-spec : {M : Type 1} → statement M
 client-flow-spec =
     tie.close
     (tie.spec
-    sub-no-lf-end
-    no-lf-end-requires
-    sub-put
-    part-put-start
-    part-put-end
-    put-requires
-    same-length
+    (λ c. search needs)
+    (λ c κs. search needs)
+    (λ c. search needs)
+    (λ c. search needs)
+    (λ c. search needs)
+    (λ c κs. search needs)
+    (λ c. search needs)
     returns)

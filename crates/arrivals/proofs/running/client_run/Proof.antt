@@ -10,16 +10,10 @@ use borrow.Author.Needs.{needs}
 use Rattle.arrivals.proofs.running.client_run.Statement.{statement}
 use Rattle.arrivals.proofs.running.client_run.Tie as tie
 
-is-settled-requires : tie.Need-is-settled-requires
-is-settled-requires c κs = search needs
-
 returns : tie.Need-returns
 returns c = λ f reply toClient h.
     let a = c .before .before .before .before .before .args in
     ran-none f client (a .octets .now) (coreFrom (stateFrom (a .control) (a .command .now) reply (a .kinds)) (a .to-server .now) toClient (a .written)) (a .i) (c .before .before .before .before .before .pre .1 .1 .0) (c .before .before .before .before .before .pre .1 .1 .1) h
-
-is-holding-requires : tie.Need-is-holding-requires
-is-holding-requires c κs = search needs
 
 client-hold-requires : tie.Need-client-hold-requires
 client-hold-requires c κs =
@@ -27,9 +21,6 @@ client-hold-requires c κs =
     let place = place-holding _ (sym (c .before .before .is-holding .ensures) ∙ c .before .if2 .taken) in
     let settled = c .before .before .before .before .before .is-settled .ensures (not-false _ (c .before .before .before .before .if1 .left)) in
     ((place, start .pre .0 .0), (start .pre .0 .1, (settled, (start .pre .1 .0, start .pre .1 .1 .0))))
-
-same-length : tie.Need-same-length
-same-length c = search needs
 
 returns-2 : tie.Need-returns-2
 returns-2 c = λ f reply toClient h. c .before .before .client-hold .ensures (c .before .before .before .before .before .before .before .before .before .before .before .before .args .to-server .now) (c .before .before .before .before .before .before .before .before .before .before .before .before .pre .1 .1 .1) f reply toClient h
@@ -39,30 +30,18 @@ returns-3 c = λ f reply toClient h.
     let a = c .before .before .before .before .before .before .before .before .before .before .args in
     ran-none f client (a .octets .now) (coreFrom (stateFrom (a .control) (a .command .now) reply (a .kinds)) (a .to-server .now) toClient (a .written)) (a .i) (c .before .before .before .before .before .before .before .before .before .before .pre .1 .1 .0) (c .before .before .before .before .before .before .before .before .before .before .pre .1 .1 .1) h
 
-is-flowing-requires : tie.Need-is-flowing-requires
-is-flowing-requires c κs = search needs
-
 client-flow-requires : tie.Need-client-flow-requires
 client-flow-requires c κs =
     let place = place-flowing _ (sym (c .before .before .is-flowing .ensures) ∙ c .before .if4 .taken) in
     (direction-at _ place (c .before .before .before .if3 .left), (c .before .before .before .before .before .before .before .before .before .is-settled .ensures (not-false _ (c .before .before .before .before .before .before .before .before .if1 .left)), (c .before .before .before .before .before .before .before .before .before .before .before .before .before .pre .1 .0, ((c .before .before .before .before .before .before .before .before .before .before .before .before .before .pre .1 .1 .0), (c .before .before .before .before .before .before .before .before .before .before .before .before .before .pre .1 .1 .1)))))
 
-same-length-2 : tie.Need-same-length-2
-same-length-2 c = search needs
-
 returns-4 : tie.Need-returns-4
 returns-4 c = λ f reply toClient h. c .before .before .client-flow .ensures (c .before .before .before .before .before .before .before .before .before .before .before .before .before .before .before .before .args .command .now) f reply toClient h
-
-is-passing-requires : tie.Need-is-passing-requires
-is-passing-requires c κs = search needs
 
 client-pass-requires : tie.Need-client-pass-requires
 client-pass-requires c κs =
     let place = place-passing _ (sym (c .before .before .is-passing .ensures) ∙ c .before .if5 .taken) in
     (direction-at _ place (c .before .before .before .before .before .if3 .left), (c .before .before .before .before .before .before .before .before .before .before .before .is-settled .ensures (not-false _ (c .before .before .before .before .before .before .before .before .before .before .if1 .left)), ((c .before .before .before .before .before .before .before .before .before .before .before .before .before .before .before .pre .1 .1 .0), (c .before .before .before .before .before .before .before .before .before .before .before .before .before .before .before .pre .1 .1 .1))))
-
-same-length-3 : tie.Need-same-length-3
-same-length-3 c = search needs
 
 returns-5 : tie.Need-returns-5
 returns-5 c = λ f reply toClient h. c .before .before .client-pass .ensures (c .before .before .before .before .before .before .before .before .before .before .before .before .before .before .before .before .before .before .args .command .now) f reply toClient h
@@ -76,19 +55,19 @@ pub client-run-spec : {M : Type 1} → statement M
 client-run-spec =
     tie.close
     (tie.spec
-    is-settled-requires
+    (λ c κs. search needs)
     returns
-    is-holding-requires
+    (λ c κs. search needs)
     client-hold-requires
-    same-length
+    (λ c. search needs)
     returns-2
     returns-3
-    is-flowing-requires
+    (λ c κs. search needs)
     client-flow-requires
-    same-length-2
+    (λ c. search needs)
     returns-4
-    is-passing-requires
+    (λ c κs. search needs)
     client-pass-requires
-    same-length-3
+    (λ c. search needs)
     returns-5
     returns-6)

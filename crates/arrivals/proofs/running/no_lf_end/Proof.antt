@@ -7,27 +7,6 @@ use borrow.Author.Needs.{needs}
 use Rattle.arrivals.proofs.running.no_lf_end.Statement.{statement}
 use Rattle.arrivals.proofs.running.no_lf_end.Tie as tie
 
-sub-least : tie.Need-sub-least
-sub-least c = search needs
-
-least-requires : tie.Need-least-requires
-least-requires c κs = search needs
-
-add-e : tie.Need-add-e
-add-e c = search needs
-
-sub-find-lf : tie.Need-sub-find-lf
-sub-find-lf c = search needs
-
-part-find-lf-start : tie.Need-part-find-lf-start
-part-find-lf-start c = search needs
-
-part-find-lf-end : tie.Need-part-find-lf-end
-part-find-lf-end c = search needs
-
-find-lf-requires : tie.Need-find-lf-requires
-find-lf-requires c κs = search needs
-
 add-result : tie.Need-add-result
 add-result c =
     let start = c .before .before .before .before in
@@ -61,12 +40,12 @@ pub no-lf-end-spec : {M : Type 1} → statement M
 no-lf-end-spec =
     tie.close
     (tie.spec
-    sub-least
-    least-requires
-    add-e
-    sub-find-lf
-    part-find-lf-start
-    part-find-lf-end
-    find-lf-requires
+    (λ c. search needs)
+    (λ c κs. search needs)
+    (λ c. search needs)
+    (λ c. search needs)
+    (λ c. search needs)
+    (λ c. search needs)
+    (λ c κs. search needs)
     add-result
     returns)

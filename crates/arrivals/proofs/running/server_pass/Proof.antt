@@ -7,33 +7,6 @@ use borrow.Author.Needs.{needs}
 use Rattle.arrivals.proofs.running.server_pass.Statement.{statement}
 use Rattle.arrivals.proofs.running.server_pass.Tie as tie
 
-sub-least : tie.Need-sub-least
-sub-least c = search needs
-
-sub-least-2 : tie.Need-sub-least-2
-sub-least-2 c = search needs
-
-least-requires : tie.Need-least-requires
-least-requires c κs = search needs
-
-add-j : tie.Need-add-j
-add-j c = search needs
-
-sub-put : tie.Need-sub-put
-sub-put c = search needs
-
-part-put-start : tie.Need-part-put-start
-part-put-start c = search needs
-
-part-put-end : tie.Need-part-put-end
-part-put-end c = search needs
-
-put-requires : tie.Need-put-requires
-put-requires c κs = search needs
-
-same-length : tie.Need-same-length
-same-length c = search needs
-
 returns : tie.Need-returns
 returns c = λ line f command toServer h.
     let a = c .before .before .before .before .before .before .before .before .args in
@@ -51,13 +24,13 @@ pub server-pass-spec : {M : Type 1} → statement M
 server-pass-spec =
     tie.close
     (tie.spec
-    sub-least
-    sub-least-2
-    least-requires
-    add-j
-    sub-put
-    part-put-start
-    part-put-end
-    put-requires
-    same-length
+    (λ c. search needs)
+    (λ c. search needs)
+    (λ c κs. search needs)
+    (λ c. search needs)
+    (λ c. search needs)
+    (λ c. search needs)
+    (λ c. search needs)
+    (λ c κs. search needs)
+    (λ c. search needs)
     returns)

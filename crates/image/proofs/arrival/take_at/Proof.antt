@@ -43,23 +43,11 @@ counts-at-requires-2 c κs =
     let size = free-size (start .args .image .now) (start .args .direction) (start .pre) in
     omega arith
 
-sub-take : tie.Need-sub-take
-sub-take c = search needs
-
-part-take-start : tie.Need-part-take-start
-part-take-start c = search needs
-
 part-take-end : tie.Need-part-take-end
 part-take-end c =
     let start = c .before .before .before .before .before .before .before .before .before .before .before in
     let size = free-size (start .args .image .now) (start .args .direction) (start .pre) in
     omega arith
-
-take-requires : tie.Need-take-requires
-take-requires c κs = search needs
-
-counts-then-requires : tie.Need-counts-then-requires
-counts-then-requires c κs = search needs
 
 put-back-requires : tie.Need-put-back-requires
 put-back-requires c κs =
@@ -83,12 +71,6 @@ same-length c =
     let same = same-len-mid clientAt lentSize I (t .last .1 .1 .1 .1 .0) (t .kept .1 .1 .1 .1 .0) in
     let kept = c .before .before .put-back .kept .0 in
     omega arith
-
-same-length-2 : tie.Need-same-length-2
-same-length-2 c = search needs
-
-same-length-3 : tie.Need-same-length-3
-same-length-3 c = search needs
 
 returns : tie.Need-returns
 unfolding arrivedOn
@@ -129,13 +111,13 @@ take-at-spec =
     control-in-requires
     counts-at-requires
     counts-at-requires-2
-    sub-take
-    part-take-start
+    (λ c. search needs)
+    (λ c. search needs)
     part-take-end
-    take-requires
-    counts-then-requires
+    (λ c κs. search needs)
+    (λ c κs. search needs)
     put-back-requires
     same-length
-    same-length-2
-    same-length-3
+    (λ c. search needs)
+    (λ c. search needs)
     returns)

@@ -15,9 +15,6 @@ use Rattle.steps.proofs.Octets.{more-held, not-stored}
 use Rattle.steps.proofs.octet.length_behind.Statement.{statement}
 use Rattle.steps.proofs.octet.length_behind.Tie as tie
 
-settled-length-requires : tie.Need-settled-length-requires
-settled-length-requires c κs = search needs
-
 -- where the octet is held: what is measured without it, and then with it
 module _ (c : tie.After-settled-length) where
   abbrev start : tie.Start
@@ -64,9 +61,6 @@ returns-2 c =
     let all = choose-false (after s) 0 (c .if1 .left) in
     omega (arith, s .settled-length .ensures)
 
-settled-length-requires-2 : tie.Need-settled-length-requires-2
-settled-length-requires-2 c κs = search needs
-
 returns-3 : tie.Need-returns-3
 returns-3 c =
     let a = c .before .before .before .args in
@@ -79,11 +73,11 @@ length-behind-spec =
     tie.close
     (tie.spec
     (λ c. search needs)
-    settled-length-requires
+    (λ c κs. search needs)
     (λ c. search needs)
     (λ c κs. search needs)
     add-result
     returns
     returns-2
-    settled-length-requires-2
+    (λ c κs. search needs)
     returns-3)
