@@ -7,6 +7,8 @@ import subprocess
 import sys
 import tempfile
 
+from usage import arguments
+
 ROOT = pathlib.Path(__file__).resolve().parent.parent
 MAKER = ROOT / "session-file"
 SAMPLES = ROOT / "samples"
@@ -181,12 +183,29 @@ def refused_checks(replay, folder):
         yield f"{octets[:24].hex()}.. is refused by the replay with {number}", report(replay, path) == line.encode()
 
 
-def usage_checks():
+def usage_checks(folder):
     helped = subprocess.run([MAKER, "--help"], capture_output=True)
     yield "--help tells the usage", helped.returncode == 0 and b"session-file TEXT [OUT]" in helped.stdout
-    for arguments in ([], ["--what"], ["a", "b", "c"], ["--text"], [SAMPLES / "none.txt"]):
-        status, written, said = make(*arguments)
-        yield f"{arguments} ends with status 2", status == 2 and not written and said.count("\n") == 1
+    for words in (["-h"], ["--text", "-h"], ["-", "--help"]):
+        yield f"{words} tells it too", make(*words) == (0, helped.stdout, "")
+    for words in ([], ["a", "b", "c"], ["--text"], [SAMPLES / "none.txt"]):
+        status, written, said = make(*words)
+        yield f"{words} ends with status 2", status == 2 and not written and said.count("\n") == 1
+    for words in (["--what"], ["--text", "-x"], ["-", "--text"], ["-", "--"]):
+        status, written, said = make(*words)
+        lines = said.splitlines()
+        yield f"{words} is refused with the usage", status == 2 and not written and len(lines) == 2 and (
+            lines[0] == f"session-file: unknown option {words[-1]}" and lines[1].startswith("usage: session-file TEXT [OUT]")
+        )
+    text, session = SAMPLES / "epsv.txt", content(SAMPLES / "epsv.session")
+    yield "a file to standard output, named -", make(text, "-") == (0, session, "")
+    yield "standard input to standard output, both named -", make("-", "-", text=content(text)) == (0, session, "")
+    back = make("--text", SAMPLES / "epsv.session")[1]
+    yield "--text from a file to -", back and make("--text", SAMPLES / "epsv.session", "-") == (0, back, "")
+    yield "--text from - to -", make("--text", "-", "-", text=session) == (0, back, "")
+    out = folder / "from-standard-input"
+    yield "--text from - into a file", make("--text", "-", out, text=session) == (0, b"", "") and content(out) == back
+    yield "no file is called -", not pathlib.Path("-").exists()
 
 
 def groups(replay, folder):
@@ -195,16 +214,14 @@ def groups(replay, folder):
     yield "texts with their session files written out", made_checks(folder)
     yield "faults of texts", fault_checks(folder)
     yield "files that are no session files", refused_checks(replay, folder)
-    yield "command lines", usage_checks()
+    yield "command lines", usage_checks(folder)
 
 
 def main():
-    if len(sys.argv) != 2:
-        print("usage: samples.py REPLAY")
-        return 2
+    [replay] = arguments(__doc__, 1, 1)
     passed = failed = 0
     with tempfile.TemporaryDirectory() as folder:
-        for name, checks in groups(sys.argv[1], pathlib.Path(folder)):
+        for name, checks in groups(replay, pathlib.Path(folder)):
             results = list(checks)
             wrong = [what for what, good in results if not good]
             for what in wrong:
