@@ -10,6 +10,7 @@ import subprocess
 import sys
 
 from definitions import CLIENT, MAPPED, line
+from usage import arguments
 
 LIMIT = 60000  # octets of scripts handed to the programs at once
 NOOP, EPSV, ALGS, AUTH = b"NOOP\r\n", b"EPSV\r\n", b"ALGS STATUS64\r\n", b"AUTH TLS\r\n"
@@ -116,12 +117,13 @@ def batches(scripts):
 
 
 def main():
-    if sys.argv[1:] == ["--stored"]:
+    words = arguments(__doc__, 1, 4, ["--stored"])
+    if words == ["--stored"]:
         sys.stdout.buffer.write(given(hand_made()))
         return 0
-    ours, reference = sys.argv[1:3]
-    seed = int(sys.argv[3]) if len(sys.argv) > 3 else 1
-    count = max(1, int(sys.argv[4])) if len(sys.argv) > 4 else 5000
+    ours, reference = words[:2]
+    seed = int(words[2]) if len(words) > 2 else 1
+    count = max(1, int(words[3])) if len(words) > 3 else 5000
     r = random.Random(seed)
     scripts = [*hand_made(), *every_flag(), *(made(r) for _ in range(count))]
     seen = 0

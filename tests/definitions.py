@@ -10,6 +10,8 @@ import subprocess
 import sys
 import tempfile
 
+from usage import arguments
+
 ROOT = pathlib.Path(__file__).resolve().parent.parent
 CLIENT = bytes.fromhex("20010db8000200000000000000000031")
 MAPPED = bytes([192, 0, 2, 31])
@@ -173,9 +175,10 @@ def computed(cases):
 
 
 def main():
-    replay = pathlib.Path(sys.argv[1]).resolve()
-    seed = int(sys.argv[2]) if len(sys.argv) > 2 else 1
-    count = max(1, int(sys.argv[3])) if len(sys.argv) > 3 else 200
+    words = arguments(__doc__, 1, 3)
+    replay = pathlib.Path(words[0]).resolve()
+    seed = int(words[1]) if len(words) > 1 else 1
+    count = max(1, int(words[2])) if len(words) > 2 else 200
     r = random.Random(seed)
     cases = []
     while len(cases) < count:

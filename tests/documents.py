@@ -12,6 +12,8 @@ import pathlib
 import re
 import sys
 
+from usage import arguments
+
 ROOT = pathlib.Path(__file__).resolve().parent.parent
 SCOPE = ROOT / "docs" / "01-scope.md"
 TRACE = ROOT / "docs" / "TRACE.md"
@@ -168,6 +170,7 @@ def faults():
 
 
 def main():
+    arguments(__doc__)
     found = list(faults())
     for fault in found:
         print(fault)

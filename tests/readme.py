@@ -8,6 +8,8 @@ import re
 import subprocess
 import sys
 
+from usage import arguments
+
 ROOT = pathlib.Path(__file__).resolve().parent.parent
 README = ROOT / "README.md"
 LEFT_OUT = {".ci/run"}
@@ -36,6 +38,7 @@ def holds(command, shown):
 
 
 def main():
+    arguments(__doc__)
     text = README.read_text()
     if unmarked(text) or text.count("\n```\n") != len(re.findall(r"^```\w+$", text, re.M)):
         sys.exit(f"README.md: a code block with no mark, or one of {unmarked(text)}")

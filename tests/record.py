@@ -7,6 +7,8 @@ import pathlib
 import re
 import sys
 
+from usage import arguments
+
 ROOT = pathlib.Path(__file__).resolve().parent.parent
 SPECS = ROOT / "crates"
 PAGES = [SPECS / "rules/specs/Lines.antt", SPECS / "rules/specs/Answers.antt", SPECS / "rules/specs/Setup.antt", SPECS / "records/specs/Layout.antt"]
@@ -60,6 +62,7 @@ def faults():
 
 
 def main():
+    arguments(__doc__)
     found = list(faults())
     for fault in found:
         print(fault)

@@ -27,7 +27,8 @@ usage: bench [ROUNDS]                   the table of times
        bench --instructions             the table of instructions, by callgrind
        bench --stack                    the stack that a call needs, by objdump
        bench --plot FILE.svg [ROUNDS]   the plot of a call's cost by its octets
-       bench --document FILE [ROUNDS]   all of these: a document's figures, and the plot beside it";
+       bench --document FILE [ROUNDS]   all of these: a document's figures, and the plot beside it
+       bench --help                     this text";
 
 enum Failure {
     Misused,
@@ -55,6 +56,7 @@ fn main() -> ExitCode {
 
 fn perform(arguments: &[&str]) -> Result<(), Failure> {
     match arguments {
+        ["--help" | "-h", ..] => println!("{USAGE}"),
         ["--instructions"] => print!("{}", report::instructions()?),
         ["--stack"] => println!("{}", report::stack()),
         ["--plot", file, rounds @ ..] => report::plot(Path::new(file), read_rounds(rounds)?)?,

@@ -25,7 +25,7 @@ use std::process::ExitCode;
 use options::Options;
 
 fn main() -> ExitCode {
-    if std::env::args().any(|argument| argument == "--help") {
+    if std::env::args().any(|argument| argument == "--help" || argument == "-h") {
         println!("{}", options::USAGE);
         return ExitCode::SUCCESS;
     }
