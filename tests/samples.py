@@ -3,6 +3,7 @@
 usage: samples.py REPLAY, a program that writes the report of the session file named on its command line. The last line counts the checks.
 """
 import pathlib
+import re
 import subprocess
 import sys
 import tempfile
@@ -13,6 +14,7 @@ ROOT = pathlib.Path(__file__).resolve().parent.parent
 MAKER = ROOT / "session-file"
 SAMPLES = ROOT / "samples"
 SCOPE = ROOT / "docs" / "01-scope.md"
+EXCHANGE = ROOT / "docs" / "exchange.txt"
 # the damaged samples, each made of document-01.session
 DAMAGED = {
     "damaged-length": lambda good: good[:17] + bytes([good[17] + 1]) + good[18:],
@@ -183,6 +185,22 @@ def refused_checks(replay, folder):
         yield f"{octets[:24].hex()}.. is refused by the replay with {number}", report(replay, path) == line.encode()
 
 
+def picture_checks(replay, folder):
+    """The lines that come to the gateway in the picture of an exchange, replayed, give those that leave it there."""
+    given, sides = [SETUP.strip()], []
+    for source, target, words in re.findall(r"^(\w+) [-=]> (\w+): (.+)$", EXCHANGE.read_text(), re.M):
+        if target == "gateway":
+            given.append(f'{source} "{words}\\r\\n"')
+            sides.append({"server": "-", "client": "-"})
+        else:
+            sides[-1][target] = words.replace(" ", "\\20") + "\\0d\\0a"
+    shown = [f"{side['server']} {side['client']}" for side in sides]
+    path = folder / "exchange"
+    make("-", path, text="\n".join(given).encode())
+    written = [line.split(" ", 3)[3] for line in report(replay, path).decode().splitlines()[2:]]
+    yield "docs/exchange.txt shows what a replay writes", len(shown) > 2 and written == shown
+
+
 def usage_checks(folder):
     helped = subprocess.run([MAKER, "--help"], capture_output=True)
     yield "--help tells the usage", helped.returncode == 0 and b"session-file TEXT [OUT]" in helped.stdout
@@ -214,6 +232,7 @@ def groups(replay, folder):
     yield "texts with their session files written out", made_checks(folder)
     yield "faults of texts", fault_checks(folder)
     yield "files that are no session files", refused_checks(replay, folder)
+    yield "the picture of an exchange", picture_checks(replay, folder)
     yield "command lines", usage_checks(folder)
 
 
