@@ -98,7 +98,8 @@ fn library_lists(options: &Options) -> Compared {
 
 fn library_records(options: &Options) -> Compared {
     for seed in seeds(options.seed, options.records) {
-        if let Some(finding) = records::forged(seed).or_else(|| records::shaken(seed)) {
+        let finding = records::forged(seed).or_else(|| records::shaken(seed));
+        if let Some(finding) = finding.or_else(|| records::longer(seed)) {
             return Err(Failure::Differs(format!("seed {seed}: {finding}")));
         }
     }

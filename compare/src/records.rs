@@ -176,6 +176,28 @@ pub fn shaken(seed: u64) -> Option<String> {
     None
 }
 
+/// Memory that is longer than a record: its first octets are the record, the others stay.
+pub fn longer(seed: u64) -> Option<String> {
+    let session = generate::list(seed);
+    let mut record = reached(&mut Random::new(seed), &session);
+    let mut longer = [&record[..], &[9]].concat();
+    let greeted = |record: &mut [u8]| {
+        let (mut to_server, mut to_client) = ([0; 2048], [0; 2048]);
+        let hi = b"220 hi\r\n";
+        let called = fashlemor::arrive(
+            record,
+            fashlemor::SERVER,
+            hi,
+            &mut to_server,
+            &mut to_client,
+        );
+        (called, to_server, to_client)
+    };
+    let same = greeted(&mut record) == greeted(&mut longer);
+    let kept = longer[..record.len()] == record && longer[record.len()..] == [9];
+    (!same || !kept).then(|| "memory that is longer than its record is not used as one".into())
+}
+
 /// Ours with all counters advanced by the same number, so that they wrap on the way: offsets are
 /// differences, so nothing else may be seen of it.
 pub struct NearWrap(Ours);
