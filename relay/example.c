@@ -7,17 +7,17 @@
 
 static uint8_t record[FASHLEMOR_RECORD];
 static uint8_t to_server[FASHLEMOR_ROOM], to_client[FASHLEMOR_ROOM];
-static size_t counts[3];
+static struct fashlemor_counts counts;
 
 static uint8_t arrive(uint8_t direction, const char *octets) {
     return fashlemor_arrive(record, sizeof record, direction,
                             (const uint8_t *)octets, strlen(octets),
-                            to_server, sizeof to_server, to_client, sizeof to_client, counts, 3);
+                            to_server, sizeof to_server, to_client, sizeof to_client, &counts);
 }
 
 static uint8_t end(uint8_t direction) {
     return fashlemor_end(record, sizeof record, direction,
-                         to_server, sizeof to_server, to_client, sizeof to_client, counts, 3);
+                         to_server, sizeof to_server, to_client, sizeof to_client, &counts);
 }
 
 static int holds(const uint8_t *buffer, size_t count, const char *text) {
@@ -27,8 +27,8 @@ static int holds(const uint8_t *buffer, size_t count, const char *text) {
 /* Whether a call answered 0 and wrote these texts, which a host would now send. */
 static int wrote(uint8_t answer, const char *server, const char *client) {
     return answer == FASHLEMOR_DONE
-        && holds(to_server, counts[FASHLEMOR_TO_SERVER], server)
-        && holds(to_client, counts[FASHLEMOR_TO_CLIENT], client);
+        && holds(to_server, counts.to_server, server)
+        && holds(to_client, counts.to_client, client);
 }
 
 /* The client 2001:db8:2::31, for whom 192.0.2.31 stands towards the server. */
@@ -38,10 +38,17 @@ static uint8_t set_up(void) {
     return fashlemor_setup(record, sizeof record, setup, sizeof setup);
 }
 
+/* An arrival of nothing, at no buffers: where a length is 0 the pointer may be null. */
+static uint8_t arrive_nothing(void) {
+    return fashlemor_arrive(record, sizeof record, FASHLEMOR_SERVER, NULL, 0, NULL, 0, NULL, 0,
+                            &counts);
+}
+
 /* What arrives may be cut anywhere: the record holds an unfinished line until its rest comes, or
  * the end. */
 static int exchange(void) {
     return set_up() == FASHLEMOR_DONE
+        && wrote(arrive_nothing(), "", "")
         && wrote(arrive(FASHLEMOR_SERVER, "220 hi\r\n"), "", "220 hi\r\n")
         && wrote(arrive(FASHLEMOR_CLIENT, "EP"), "", "")
         && wrote(arrive(FASHLEMOR_CLIENT, "SV\r\n"), "PASV\r\n", "")
@@ -54,8 +61,8 @@ static int exchange(void) {
 int main(void) {
     uint32_t up = 0, down = 0; /* octets written for a direction minus those taken from it */
     if (!exchange()
-        || fashlemor_offset(record, sizeof record, FASHLEMOR_CLIENT, &up, 1) != FASHLEMOR_DONE
-        || fashlemor_offset(record, sizeof record, FASHLEMOR_SERVER, &down, 1) != FASHLEMOR_DONE) {
+        || fashlemor_offset(record, sizeof record, FASHLEMOR_CLIENT, &up) != FASHLEMOR_DONE
+        || fashlemor_offset(record, sizeof record, FASHLEMOR_SERVER, &down) != FASHLEMOR_DONE) {
         puts("the session went wrong");
         return 1;
     }

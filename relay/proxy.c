@@ -119,10 +119,10 @@ static uint8_t set_up(struct session *s, const struct in6_addr *client) {
 }
 
 /* One call may write to both sides: the gateway answers some commands itself. */
-static size_t keep_written(struct session *s, const size_t *counts) {
-    s->peers[FASHLEMOR_SERVER].out_count += counts[FASHLEMOR_TO_SERVER];
-    s->peers[FASHLEMOR_CLIENT].out_count += counts[FASHLEMOR_TO_CLIENT];
-    return counts[FASHLEMOR_TAKEN];
+static size_t keep_written(struct session *s, const struct fashlemor_counts *counts) {
+    s->peers[FASHLEMOR_SERVER].out_count += counts->to_server;
+    s->peers[FASHLEMOR_CLIENT].out_count += counts->to_client;
+    return counts->taken;
 }
 
 /* What is written goes behind what is still to be sent. */
@@ -130,25 +130,25 @@ static uint8_t arrive(struct session *s, uint8_t side, size_t *taken) {
     struct peer *from = &s->peers[side];
     struct peer *client = &s->peers[FASHLEMOR_CLIENT];
     struct peer *server = &s->peers[FASHLEMOR_SERVER];
-    size_t counts[3] = {0};
+    struct fashlemor_counts counts = {0};
     uint8_t answer = fashlemor_arrive(s->record, sizeof s->record, side,
                                       from->waiting, from->waiting_count,
                                       server->out + server->out_count, OUT - server->out_count,
                                       client->out + client->out_count, OUT - client->out_count,
-                                      counts, 3);
-    *taken = keep_written(s, counts);
+                                      &counts);
+    *taken = keep_written(s, &counts);
     return answer;
 }
 
 static uint8_t end(struct session *s, uint8_t side) {
     struct peer *client = &s->peers[FASHLEMOR_CLIENT];
     struct peer *server = &s->peers[FASHLEMOR_SERVER];
-    size_t counts[3] = {0};
+    struct fashlemor_counts counts = {0};
     uint8_t answer = fashlemor_end(s->record, sizeof s->record, side,
                                    server->out + server->out_count, OUT - server->out_count,
                                    client->out + client->out_count, OUT - client->out_count,
-                                   counts, 3);
-    keep_written(s, counts);
+                                   &counts);
+    keep_written(s, &counts);
     return answer;
 }
 

@@ -20,7 +20,7 @@ TRACE = ROOT / "docs" / "TRACE.md"
 PROMISES = ROOT / "docs" / "PROMISES.md"
 DOCUMENTS = [ROOT / "README.md", *sorted((ROOT / "docs").glob("*.md"))]
 TRACED = ["The session", "Lines", "Client lines", "Server lines", "Demand 3 written out", "Session files"]
-BELIEVED = ["rules", "octets", "address", "commands", "output", "queue", "places", "gives", "upstream", "downstream", "records", "steps", "session", "files", "fields", "report", "image", "relay", "hosts"]
+BELIEVED = ["rules", "octets", "address", "commands", "output", "queue", "places", "gives", "upstream", "downstream", "records", "steps", "session", "files", "fields", "report", "image", "fashlemor", "hosts"]
 # pages that only private functions cite
 PRIVATE = {"Core", "Runs", "PlainRuns"}
 # how many words of document 01 may stand between two pieces that are traced

@@ -1,6 +1,8 @@
 //! What is measured: the proved gateway, the reference, and plain copying as the least that any
 //! gateway could cost. All three are called alike and write into the same lent buffers.
 
+use fashlemor::raw;
+
 pub const CLIENT: u8 = 0;
 pub const SERVER: u8 = 1;
 
@@ -46,21 +48,28 @@ pub trait Gateway: Clone {
     fn arrive(&mut self, direction: u8, octets: &[u8], buffers: &mut Buffers) -> Called;
 }
 
-/// The proved gateway: the C functions of the static library over the record's octets. The safe
-/// package adds three stores to a call, which set the counts that the library then overwrites.
+/// The proved gateway: the C functions of the static library over the record's octets, which begin on
+/// a cache line. The safe package adds three stores to a call, which set the counts that the library
+/// then overwrites.
 #[derive(Clone)]
-pub struct Ours(fashlemor::Session);
+#[repr(align(64))]
+pub struct Ours([u8; fashlemor::RECORD]);
 
 impl Gateway for Ours {
     fn setup() -> Ours {
-        let (session, answer) = fashlemor::Session::setup(&CLIENT_ADDRESS, &MAPPED_ADDRESS, FLAGS);
-        assert_eq!(answer, fashlemor::DONE);
-        Ours(session)
+        let setup = fashlemor::Setup {
+            client: CLIENT_ADDRESS.into(),
+            mapped: MAPPED_ADDRESS.into(),
+            flags: FLAGS,
+        };
+        let mut record = [0; fashlemor::RECORD];
+        assert_eq!(raw::setup(&mut record, &setup.octets()), raw::DONE);
+        Ours(record)
     }
 
     fn arrive(&mut self, direction: u8, octets: &[u8], buffers: &mut Buffers) -> Called {
         let (to_server, to_client) = (&mut buffers.to_server, &mut buffers.to_client);
-        let called = self.0.arrive(direction, octets, to_server, to_client);
+        let called = raw::arrive(&mut self.0, direction.into(), octets, to_server, to_client);
         Called {
             answer: called.answer,
             taken: called.taken,

@@ -1,5 +1,6 @@
 //! The two gateways behind one interface, and the first call on which they differ.
 
+use fashlemor::raw;
 use reference::Gateway as ReferenceGateway;
 
 use crate::session::{Call, Rooms, Session, Setup, What, FULL_ROOM};
@@ -150,7 +151,8 @@ impl Ours {
     }
 
     pub fn offsets(&self) -> [u32; 2] {
-        [0, 1].map(|direction| fashlemor::offset(self.record(), direction).unwrap_or(u32::MAX))
+        [raw::CLIENT, raw::SERVER]
+            .map(|direction| raw::offset(self.record(), direction).unwrap_or(u32::MAX))
     }
 
     fn is_written_behind(&self) -> bool {
@@ -161,11 +163,10 @@ impl Ours {
         let record_length = self.record.len() - GUARD;
         let record = &mut self.record[..record_length];
         let (to_server, to_client) = self.lent.lend(call.rooms);
+        let direction = call.direction.into();
         let called = match &call.what {
-            What::Arrival(octets) => {
-                fashlemor::arrive(record, call.direction, octets, to_server, to_client)
-            }
-            What::End => fashlemor::end(record, call.direction, to_server, to_client),
+            What::Arrival(octets) => raw::arrive(record, direction, octets, to_server, to_client),
+            What::End => raw::end(record, direction, to_server, to_client),
         };
         Counts {
             answer: called.answer,
@@ -182,11 +183,11 @@ impl Gateway for Ours {
     fn setup(setup: &Setup) -> (Ours, Seen) {
         let mut ours = Ours::of_record(&PATTERN[..fashlemor::RECORD]);
         let record = &mut ours.record[..fashlemor::RECORD];
-        let answer = fashlemor::setup(record, &setup.octets());
+        let answer = raw::setup(record, &setup.octets());
         let dead = ours.record().iter().all(|&octet| octet == 0);
         let fault = if ours.is_written_behind() {
             Some(WRITTEN_BEHIND)
-        } else if dead != (answer != fashlemor::DONE) {
+        } else if dead != (answer != raw::DONE) {
             Some("the record is all zero exactly when the setup is refused: not here")
         } else {
             None

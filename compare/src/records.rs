@@ -1,6 +1,8 @@
 //! Records that no session leads to. The reference has no record in octets, so here the rules
 //! alone are asked: what number 4 lists is refused, and nothing is written or changed.
 
+use fashlemor::raw;
+
 use crate::gateways::{Gateway, Ours, Seen};
 use crate::generate;
 use crate::random::Random;
@@ -132,8 +134,8 @@ pub fn forged(seed: u64) -> Option<String> {
         ..call.clone()
     };
     let mut ours = Ours::of_record(&record);
-    let fault = not_refused(&mut ours, &call, fashlemor::BAD_RECORD)
-        .or_else(|| not_refused(&mut ours, &unknown, fashlemor::UNKNOWN_DIRECTION));
+    let fault = not_refused(&mut ours, &call, raw::BAD_RECORD)
+        .or_else(|| not_refused(&mut ours, &unknown, raw::UNKNOWN_DIRECTION));
     fault.map(|said| format!("a record with {forgery}\n{said}"))
 }
 
@@ -166,7 +168,7 @@ pub fn shaken(seed: u64) -> Option<String> {
     for _ in 0..3 {
         let call = some_call(&mut random, &session);
         let seen = ours.call(&call);
-        let refused = seen.answer >= fashlemor::UNKNOWN_DIRECTION;
+        let refused = seen.answer >= raw::UNKNOWN_DIRECTION;
         let wrote = !seen.to_server.is_empty() || !seen.to_client.is_empty();
         if seen.fault.is_some() || (refused && (wrote || seen.taken > 0)) {
             let said = format!("{}\n{}", call_text(&call), seen.text());
@@ -184,13 +186,7 @@ pub fn longer(seed: u64) -> Option<String> {
     let greeted = |record: &mut [u8]| {
         let (mut to_server, mut to_client) = ([0; 2048], [0; 2048]);
         let hi = b"220 hi\r\n";
-        let called = fashlemor::arrive(
-            record,
-            fashlemor::SERVER,
-            hi,
-            &mut to_server,
-            &mut to_client,
-        );
+        let called = raw::arrive(record, raw::SERVER, hi, &mut to_server, &mut to_client);
         (called, to_server, to_client)
     };
     let same = greeted(&mut record) == greeted(&mut longer);
@@ -206,7 +202,7 @@ impl Gateway for NearWrap {
     fn setup(setup: &Setup) -> (NearWrap, Seen) {
         let (ours, seen) = Ours::setup(setup);
         let mut record = ours.record().to_vec();
-        if seen.answer == fashlemor::DONE {
+        if seen.answer == raw::DONE {
             for counter in layout::COUNTERS {
                 let advanced = number(&record, counter).wrapping_sub(20);
                 put(&mut record, counter, advanced);
@@ -226,19 +222,36 @@ pub fn odd_lengths() -> Option<String> {
     let setup = [1; 2 * fashlemor::SETUP];
     for length in (0..setup.len()).filter(|&length| length != fashlemor::SETUP) {
         let mut record = [9; fashlemor::RECORD];
-        let answer = fashlemor::setup(&mut record, &setup[..length]);
-        if answer != fashlemor::BAD_SETUP || record != [0; fashlemor::RECORD] {
+        let answer = raw::setup(&mut record, &setup[..length]);
+        if answer != raw::BAD_SETUP || record != [0; fashlemor::RECORD] {
             return Some(format!("a setup of {length} octets is answered {answer}"));
         }
     }
     let mut short = [9; fashlemor::RECORD - 1];
-    let answer = fashlemor::setup(&mut short, &setup[..fashlemor::SETUP]);
-    if answer != fashlemor::BAD_SETUP || short != [9; fashlemor::RECORD - 1] {
+    let answer = raw::setup(&mut short, &setup[..fashlemor::SETUP]);
+    if answer != raw::BAD_SETUP || short != [9; fashlemor::RECORD - 1] {
         return Some(format!("a record that is too short is answered {answer}"));
     }
-    let unknown =
-        (2..=255).find(|&side| fashlemor::offset(&[0; fashlemor::RECORD], side).is_some());
-    unknown.map(|side| format!("there is an offset of direction {side}"))
+    UNKNOWN.into_iter().find_map(unknown_taken)
+}
+
+/// Directions that there are not; the wide ones would be 0 or 1 in an octet or in 32 bits.
+const UNKNOWN: [u64; 6] = [2, 255, 256, 257, 1 << 32, u64::MAX];
+
+/// What is wrong with the answers to a direction that there is not, if anything.
+fn unknown_taken(side: u64) -> Option<String> {
+    let mut record = [0; fashlemor::RECORD];
+    let mut out = [0; fashlemor::ROOM];
+    let mut back = out;
+    raw::setup(&mut record, &[0; fashlemor::SETUP]);
+    let fresh = record;
+    let arrival = raw::arrive(&mut record, side, b"x\n", &mut out, &mut back).answer;
+    let end = raw::end(&mut record, side, &mut out, &mut back).answer;
+    if (arrival, end) != (raw::UNKNOWN_DIRECTION, raw::UNKNOWN_DIRECTION) || record != fresh {
+        return Some(format!("direction {side} is answered {arrival} and {end}"));
+    }
+    let offset = raw::offset(&record, side);
+    offset.map(|n| format!("there is an offset {n} of direction {side}"))
 }
 
 #[cfg(test)]
@@ -259,9 +272,10 @@ mod tests {
     #[test]
     fn numbers_are_where_the_layout_has_them() {
         let mut record = [0; fashlemor::RECORD];
-        fashlemor::setup(&mut record, &[1; fashlemor::SETUP]);
+        raw::setup(&mut record, &[1; fashlemor::SETUP]);
         let line = [b'x'; 300];
-        fashlemor::arrive(&mut record, fashlemor::SERVER, &line, &mut [], &mut []);
+        let called = raw::arrive(&mut record, raw::SERVER, &line, &mut [], &mut []);
+        assert_eq!(called.answer, raw::DONE);
         let counters = layout::COUNTERS.map(|counter| number(&record, counter));
         assert_eq!(counters, [0, 0, 300, 0]);
         assert_eq!(number(&record, layout::SERVER_HELD), 300);

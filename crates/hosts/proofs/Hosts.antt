@@ -24,9 +24,9 @@ use Rattle.output.specs.Buffer.{putAt}
 use Rattle.image.specs.Image.{imageOf, sessionOf}
 use Rattle.image.specs.Lent.{arrivedOn, endedOn, imageAfter, serverAfter, clientAfter}
 use Rattle.session.proofs.Octets.{of-size}
-use Rattle.relay.specs.Carried.{Holds}
-use Rattle.relay.proofs.Calls.{room}
-use Rattle.relay.proofs.Carrying.{good-flags, done-size, begun, carried}
+use Rattle.fashlemor.specs.Carried.{Holds}
+use Rattle.fashlemor.proofs.Calls.{room}
+use Rattle.fashlemor.proofs.Carrying.{good-flags, done-size, begun, carried}
 use Rattle.hosts.specs.Memory.{HostFresh, outcomeAt, HostPromise, host, HostAnswering}
 
 -- ---- an answer by its number

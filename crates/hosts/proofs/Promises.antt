@@ -1,12 +1,12 @@
 -- From the contracts of the functions that C calls to what demand 3 assumes of a gateway: a fresh memory, the promise of a call, and the offset.
-use mathlib.Core.Path.{_≡_, refl, sym, ap, _∙_}
+use mathlib.Core.Path.{_≡_, refl, sym, _∙_}
 use mathlib.Core.Bool.{Bool, true, false}
-use mathlib.Core.List.{List, [], _∷_}
+use mathlib.Core.List.{List}
 use Prim.Native.Nat.{ℕ, zero, suc, _≤_, _<_}
 use native.Mathlib.Omega.{arith}
 use lib.Dec.{leb}
-use lib.ListN.{length, getD}
-use borrow.Author.Tests.{le-leb, leb-true}
+use lib.ListN.{length}
+use borrow.Author.Tests.{leb-true}
 use Rattle.rules.specs.Octets.{choose, every}
 use Rattle.rules.specs.Answers.{answerNumber, sideOf}
 use Rattle.rules.specs.Setup.{setupIn}
@@ -20,8 +20,8 @@ use Rattle.session.specs.Calls.{preparedFrom, offset}
 use Rattle.history.specs.Gateway.{directionNumber, returnedOffset}
 use Rattle.image.specs.Image.{imageOf}
 use Rattle.image.specs.Lent.{imageAfter, serverAfter, clientAfter}
-use Rattle.relay.specs.Host.{setupNumber, countsAfter, offsetAfter}
-use Rattle.hosts.specs.Memory.{HostFresh, outcomeAt, HostPromise, toldBy}
+use Rattle.fashlemor.specs.Host.{setupNumber, countsOf, offsetAfter}
+use Rattle.hosts.specs.Memory.{HostFresh, outcomeAt, Does, HostPromise, toldBy}
 
 -- ---- a setup that is told 0 had room for the record
 
@@ -45,33 +45,35 @@ fresh-promised memory octets number put each done =
 
 -- ---- a call
 
-pub call-promised : (image : List ℕ) (c : Call) (counts : List ℕ) {n : ℕ} {counts′ image′ server client : List ℕ}
-    → n ≡ answerNumber (outcomeAt image c .called .answer) → image′ ≡ imageAfter image (outcomeAt image c .called)
-    → server ≡ serverAfter (outcomeAt image c) (lentServer c) → client ≡ clientAfter (outcomeAt image c) (lentClient c)
-    → counts′ ≡ countsAfter (outcomeAt image c .called) counts
-    → (a : Answer) → answerNumber a ≡ n → 3 ≤ length counts → HostPromise image c (toldBy a counts′ image′ server client)
-unfolding countsAfter choose
-call-promised image c counts number memory server client told a e room =
-    let long = le-leb 3 (length counts) room in
-    record {
-      number = e ∙ number;
-      taken = rw (told, long);
-      toServer = rw (told, long);
-      toClient = rw (told, long);
-      memory = memory;
-      serverBuffer = server;
-      clientBuffer = client;
-    }
+-- its equations, as a function that C calls ensures them
+pub call-promised : (image : List ℕ) (c : Call) {n : ℕ} {counts image′ server client : List ℕ}
+    → ((n ≡ answerNumber (outcomeAt image c .called .answer)) × (counts ≡ countsOf (outcomeAt image c .called)))
+    × ((image′ ≡ imageAfter image (outcomeAt image c .called))
+    × ((server ≡ serverAfter (outcomeAt image c) (lentServer c)) × (client ≡ clientAfter (outcomeAt image c) (lentClient c))))
+    → Does image c n image′ server client counts
+    × ((a : Answer) → answerNumber a ≡ n → HostPromise image c (toldBy a counts image′ server client))
+unfolding countsOf
+call-promised image c ((number, told), (memory, (server, client))) = (
+  record { number = number; memory = memory; serverBuffer = server; clientBuffer = client; told = told },
+  λ a e. record {
+    number = e ∙ number;
+    taken = rw told;
+    toServer = rw told;
+    toClient = rw told;
+    memory = memory;
+    serverBuffer = server;
+    clientBuffer = client;
+  },
+)
 
 -- ---- the offset
 
-set-first : (s : Session) (d : ℕ) (out : List ℕ) → d < 2 → 1 ≤ length out → getD (offsetAfter (offset s d) out) 0 0 ≡ returnedOffset (offset s (directionNumber (sideOf d)))
+set-to : (s : Session) (d old : ℕ) → d < 2 → offsetAfter (offset s d) old ≡ returnedOffset (offset s (directionNumber (sideOf d)))
 unfolding offset offsetAfter
-set-first s d [] h room = absurd (omega arith)
-set-first s zero (x ∷ out) h room = refl
-set-first s (suc zero) (x ∷ out) h room = refl
-set-first s (suc (suc d)) (x ∷ out) h room = absurd (omega arith)
+set-to s zero old h = refl
+set-to s (suc zero) old h = refl
+set-to s (suc (suc d)) old h = absurd (omega arith)
 
-pub offset-promised : (s : Session) (d : ℕ) (out : List ℕ) {out′ : List ℕ} → out′ ≡ offsetAfter (offset s d) out → d < 2 → 1 ≤ length out
-    → getD out′ 0 0 ≡ returnedOffset (offset s (directionNumber (sideOf d)))
-offset-promised s d out e h room = ap (λ (l : List ℕ). getD l 0 0) e ∙ set-first s d out h room
+pub offset-promised : (s : Session) (d old : ℕ) {out : ℕ} → out ≡ offsetAfter (offset s d) old → d < 2
+    → out ≡ returnedOffset (offset s (directionNumber (sideOf d)))
+offset-promised s d old e h = e ∙ set-to s d old h

@@ -1,4 +1,4 @@
--- A host in C as a gateway of demand 3: its memory is the record, and the functions of the crate relay are the calls.
+-- A host in C as a gateway of demand 3: its memory is the record, and the functions of the crate fashlemor are the calls.
 use mathlib.Core.Path.{_≡_}
 use mathlib.Core.Bool.{true}
 use mathlib.Core.List.{List}
@@ -17,7 +17,7 @@ use Rattle.session.specs.Calls.{Outcome, preparedFrom, offset as sessionOffset}
 use Rattle.history.specs.Gateway.{directionNumber, returnedOffset}
 use Rattle.image.specs.Image.{imageOf, sessionOf}
 use Rattle.image.specs.Lent.{arrivedOn, endedOn, imageAfter, serverAfter, clientAfter}
-use Rattle.relay.specs.Host.{setupNumber, countsAfter}
+use Rattle.fashlemor.specs.Host.{setupNumber, countsOf}
 
 -- "the record of a setup that answered 0": what `fashlemor_setup` left in memory that had room for a record
 pub record HostFresh (su : Setup) (image : List ℕ) : Type 0 where
@@ -34,13 +34,13 @@ unfoldable pub outcomeAt : List ℕ → Call → Outcome
 outcomeAt image (arrival d octets s c) = arrivedOn image d octets s c
 outcomeAt image (ending d s c) = endedOn image d s c
 
--- all that they do, however many counts a host lends: the number n, and memory, buffers and counts then
-pub record Does (image : List ℕ) (c : Call) (counts : List ℕ) (n : ℕ) (image′ server client counts′ : List ℕ) : Type 0 where
+-- all that they do: the number n, and memory, buffers and counts then
+pub record Does (image : List ℕ) (c : Call) (n : ℕ) (image′ server client counts′ : List ℕ) : Type 0 where
   pub number : n ≡ answerNumber (outcomeAt image c .called .answer)
   pub memory : image′ ≡ imageAfter image (outcomeAt image c .called)
   pub serverBuffer : server ≡ serverAfter (outcomeAt image c) (lentServer c)
   pub clientBuffer : client ≡ clientAfter (outcomeAt image c) (lentClient c)
-  pub told : counts′ ≡ countsAfter (outcomeAt image c .called) counts
+  pub told : counts′ ≡ countsOf (outcomeAt image c .called)
 
 -- what they promise: the number, the three counts, the memory, and the two buffers
 pub record HostPromise (image : List ℕ) (c : Call) (t : Return (List ℕ)) : Type 0 where

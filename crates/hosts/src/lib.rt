@@ -1,7 +1,7 @@
-// Demand 3 for a host in C, whose memory is the record. The functions that C calls stand here once more, with the promises that the claim is proved from as
-// their contracts: that they keep them is proved, not read.
+// Demand 3 for a host in C, whose memory is the record. The functions that C calls stand here once more, with the
+// promises that the claim is proved from as their contracts: that they keep them is proved, not read.
 ghost use mathlib.Core.Path.{_≡_};
-ghost use Prim.Native.Nat.{_≤_, _<_};
+ghost use Prim.Native.Nat.{_<_};
 ghost use lib.ListN.{length, getD};
 ghost use Rattle.rules.specs.Answers.{answerNumber, sideOf};
 ghost use Rattle.rules.specs.Setup.{setupIn};
@@ -10,46 +10,49 @@ ghost use Rattle.session.specs.Bounds.{Progress};
 ghost use Rattle.session.specs.Calls.{preparedFrom, offset as offsetIn};
 ghost use Rattle.output.specs.Buffer.{putAt};
 ghost use Rattle.image.specs.Image.{imageOf, sessionOf};
-ghost use Rattle.relay.specs.Host.{setupNumber, offsetNumber, offsetAfter};
+ghost use Rattle.fashlemor.specs.Host.{setupNumber, offsetNumber, offsetAfter};
 ghost use Rattle.hosts.specs.Memory.{host, toldBy, Does};
-use relay::fashlemor_arrive;
-use relay::fashlemor_end;
-use relay::fashlemor_offset;
-use relay::fashlemor_setup;
+use fashlemor::fashlemor_arrive;
+use fashlemor::fashlemor_end;
+use fashlemor::fashlemor_offset;
+use fashlemor::fashlemor_setup;
 use rules::Answer;
 
 // A setup that is told 0 leaves a fresh record in the host's memory.
 pub fn promised_setup(image: &mut [u8], setup: &[u8]) -> u8
     ensures { λ r. ⌜ r ≡ setupNumber (now (image .entry)) (preparedFrom (now (setup .entry))) ⌝ }
-    ensures { λ r. ⌜ now (image .exit) ≡ putAt (now (image .entry)) 0 (imageOf (preparedFrom (now (setup .entry)) .session)) ⌝ }
+    ensures { λ r.
+        let p = preparedFrom (now (setup .entry)) in
+        ⌜ now (image .exit) ≡ putAt (now (image .entry)) 0 (imageOf (p .session)) ⌝ }
     ensures { λ r. ⌜ (r ≡ answerNumber Answer.Done → host .Fresh (setupIn (now (setup .entry))) (now (image .exit))) ⌝ }
 {
     fashlemor_setup(image, setup)
 }
 
-// An arrival does all that the call does, whatever is lent, and so keeps the promise to a host that lends three counts.
-// It goes on where there is room.
+// An arrival does all that the call does, whatever is lent, and so keeps the promise. It goes on where there is room.
 pub fn promised_arrival(
     image: &mut [u8],
-    direction: u8,
+    direction: u64,
     octets: &[u8],
     to_server: &mut [u8],
     to_client: &mut [u8],
-    counts: &mut [usize],
+    counts: &mut [usize; 3],
 ) -> u8
     ensures { λ r.
         let c = arrival direction (now (octets .entry)) (now («to_server» .entry)) (now («to_client» .entry)) in
-        ⌜ Does (now (image .entry)) c (now (counts .entry)) r (now (image .exit)) (now («to_server» .exit)) (now («to_client» .exit))
-        (now (counts .exit)) ⌝ }
+        let out = now («to_server» .exit) in
+        let back = now («to_client» .exit) in
+        ⌜ Does (now (image .entry)) c r (now (image .exit)) out back (now (counts .exit)) ⌝ }
     ensures { λ r.
         let c = arrival direction (now (octets .entry)) (now («to_server» .entry)) (now («to_client» .entry)) in
-        ⌜ ((a : Answer) → answerNumber a ≡ r → 3 ≤ length (now (counts .entry))
-        → host .Promise (now (image .entry)) c
-        (toldBy a (now (counts .exit)) (now (image .exit)) (now («to_server» .exit)) (now («to_client» .exit)))) ⌝ }
+        let out = now («to_server» .exit) in
+        let back = now («to_client» .exit) in
+        ⌜ ((a : Answer) → answerNumber a ≡ r
+        → host .Promise (now (image .entry)) c (toldBy a (now (counts .exit)) (now (image .exit)) out back)) ⌝ }
     ensures progress { λ r.
         let serverRoom = length (now («to_server» .entry)) in
         let clientRoom = length (now («to_client» .entry)) in
-        ⌜ ((a : Answer) → answerNumber a ≡ r → 3 ≤ length (now (counts .entry))
+        ⌜ ((a : Answer) → answerNumber a ≡ r
         → Progress (now (octets .entry)) serverRoom clientRoom a (getD (now (counts .exit)) 0 0)) ⌝ }
 {
     fashlemor_arrive(image, direction, octets, to_server, to_client, counts)
@@ -58,29 +61,32 @@ pub fn promised_arrival(
 // So does an end.
 pub fn promised_end(
     image: &mut [u8],
-    direction: u8,
+    direction: u64,
     to_server: &mut [u8],
     to_client: &mut [u8],
-    counts: &mut [usize],
+    counts: &mut [usize; 3],
 ) -> u8
     ensures { λ r.
         let c = ending direction (now («to_server» .entry)) (now («to_client» .entry)) in
-        ⌜ Does (now (image .entry)) c (now (counts .entry)) r (now (image .exit)) (now («to_server» .exit)) (now («to_client» .exit))
-        (now (counts .exit)) ⌝ }
+        let out = now («to_server» .exit) in
+        let back = now («to_client» .exit) in
+        ⌜ Does (now (image .entry)) c r (now (image .exit)) out back (now (counts .exit)) ⌝ }
     ensures { λ r.
         let c = ending direction (now («to_server» .entry)) (now («to_client» .entry)) in
-        ⌜ ((a : Answer) → answerNumber a ≡ r → 3 ≤ length (now (counts .entry))
-        → host .Promise (now (image .entry)) c
-        (toldBy a (now (counts .exit)) (now (image .exit)) (now («to_server» .exit)) (now («to_client» .exit)))) ⌝ }
+        let out = now («to_server» .exit) in
+        let back = now («to_client» .exit) in
+        ⌜ ((a : Answer) → answerNumber a ≡ r
+        → host .Promise (now (image .entry)) c (toldBy a (now (counts .exit)) (now (image .exit)) out back)) ⌝ }
 {
     fashlemor_end(image, direction, to_server, to_client, counts)
 }
 
 // The offset that is set for a direction that there is, is the host's.
-pub fn promised_offset(image: &[u8], direction: u8, out: &mut [u32]) -> u8
+pub fn promised_offset(image: &[u8], direction: u64, out: &mut u32) -> u8
     ensures { λ r. ⌜ r ≡ offsetNumber (offsetIn (sessionOf (now (image .entry))) direction) ⌝ }
-    ensures { λ r. ⌜ now (out .exit) ≡ offsetAfter (offsetIn (sessionOf (now (image .entry))) direction) (now (out .entry)) ⌝ }
-    ensures { λ r. ⌜ (direction < 2 → 1 ≤ length (now (out .entry)) → getD (now (out .exit)) 0 0 ≡ host .offset (now (image .entry)) (sideOf direction)) ⌝ }
+    ensures { λ r.
+        ⌜ now (out .exit) ≡ offsetAfter (offsetIn (sessionOf (now (image .entry))) direction) (now (out .entry)) ⌝ }
+    ensures { λ r. ⌜ (direction < 2 → now (out .exit) ≡ host .offset (now (image .entry)) (sideOf direction)) ⌝ }
 {
     fashlemor_offset(image, direction, out)
 }

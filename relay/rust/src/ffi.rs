@@ -1,12 +1,23 @@
 //! The four functions of the static library, each behind a safe one. This module alone is unsafe.
 //!
-//! What the library asks for, Rust's slices give: pointers that are not null, memory of that
-//! length, and no overlap between what is lent to be written and anything else.
+//! What the library asks for, Rust's slices give: memory of that length, and no overlap between
+//! what is lent to be written and anything else.
 
-use crate::{Called, DONE};
+/// `struct fashlemor_counts`.
+#[repr(C)]
+#[derive(Clone, Copy)]
+pub struct Counts {
+    pub taken: usize,
+    pub to_server: usize,
+    pub to_client: usize,
+}
 
 /// The library sets all three counts with every answer; one that it did not set would be noticed.
-const NOT_SET: [usize; 3] = [usize::MAX; 3];
+const NOT_SET: Counts = Counts {
+    taken: usize::MAX,
+    to_server: usize::MAX,
+    to_client: usize::MAX,
+};
 
 extern "C" {
     fn fashlemor_setup(
@@ -19,39 +30,35 @@ extern "C" {
     fn fashlemor_arrive(
         record: *mut u8,
         record_length: usize,
-        direction: u8,
+        direction: u64,
         octets: *const u8,
         octets_length: usize,
         to_server: *mut u8,
         to_server_length: usize,
         to_client: *mut u8,
         to_client_length: usize,
-        counts: *mut usize,
-        counts_length: usize,
+        counts: *mut Counts,
     ) -> u8;
 
     fn fashlemor_end(
         record: *mut u8,
         record_length: usize,
-        direction: u8,
+        direction: u64,
         to_server: *mut u8,
         to_server_length: usize,
         to_client: *mut u8,
         to_client_length: usize,
-        counts: *mut usize,
-        counts_length: usize,
+        counts: *mut Counts,
     ) -> u8;
 
     fn fashlemor_offset(
         record: *const u8,
         record_length: usize,
-        direction: u8,
+        direction: u64,
         offset: *mut u32,
-        offset_length: usize,
     ) -> u8;
 }
 
-/// Writes the record of a fresh session. Answers 0 or 5.
 pub fn setup(record: &mut [u8], setup: &[u8]) -> u8 {
     unsafe {
         fashlemor_setup(
@@ -63,14 +70,13 @@ pub fn setup(record: &mut [u8], setup: &[u8]) -> u8 {
     }
 }
 
-/// Octets of a direction arrive at the session of a record.
 pub fn arrive(
     record: &mut [u8],
-    direction: u8,
+    direction: u64,
     octets: &[u8],
     to_server: &mut [u8],
     to_client: &mut [u8],
-) -> Called {
+) -> (u8, Counts) {
     let mut counts = NOT_SET;
     let answer = unsafe {
         fashlemor_arrive(
@@ -83,15 +89,18 @@ pub fn arrive(
             to_server.len(),
             to_client.as_mut_ptr(),
             to_client.len(),
-            counts.as_mut_ptr(),
-            counts.len(),
+            &mut counts,
         )
     };
-    called(answer, counts)
+    (answer, counts)
 }
 
-/// A direction of a record's session ends.
-pub fn end(record: &mut [u8], direction: u8, to_server: &mut [u8], to_client: &mut [u8]) -> Called {
+pub fn end(
+    record: &mut [u8],
+    direction: u64,
+    to_server: &mut [u8],
+    to_client: &mut [u8],
+) -> (u8, Counts) {
     let mut counts = NOT_SET;
     let answer = unsafe {
         fashlemor_end(
@@ -102,34 +111,14 @@ pub fn end(record: &mut [u8], direction: u8, to_server: &mut [u8], to_client: &m
             to_server.len(),
             to_client.as_mut_ptr(),
             to_client.len(),
-            counts.as_mut_ptr(),
-            counts.len(),
+            &mut counts,
         )
     };
-    called(answer, counts)
+    (answer, counts)
 }
 
-/// The offset of a direction, or none for a direction that there is not.
-pub fn offset(record: &[u8], direction: u8) -> Option<u32> {
-    let mut offset = [0];
-    let answer = unsafe {
-        fashlemor_offset(
-            record.as_ptr(),
-            record.len(),
-            direction,
-            offset.as_mut_ptr(),
-            offset.len(),
-        )
-    };
-    (answer == DONE).then_some(offset[0])
-}
-
-fn called(answer: u8, counts: [usize; 3]) -> Called {
-    let [taken, to_server, to_client] = counts;
-    Called {
-        answer,
-        taken,
-        to_server,
-        to_client,
-    }
+pub fn offset(record: &[u8], direction: u64) -> (u8, u32) {
+    let mut offset = 0;
+    let answer = unsafe { fashlemor_offset(record.as_ptr(), record.len(), direction, &mut offset) };
+    (answer, offset)
 }

@@ -1,35 +1,46 @@
 //! The FTP control channel gateway (RFC 6384) from Rust: safe functions over the static library
-//! that `rt staticlib relay` makes. `relay/fashlemor.h` says what each one does.
+//! that `rt staticlib fashlemor` makes. `relay/fashlemor.h` says what each one does, and
+//! `docs/HOST.md` how to write a host.
 //!
 //! A host keeps a [`Session`] for each control connection and hands in whatever arrives:
 //!
 //! ```
-//! use fashlemor::{Session, CLIENT, DONE, EPSV, SERVER};
+//! use fashlemor::{Direction, Session, Setup, Stop, ROOM};
 //!
-//! let client = [0x20, 0x01, 0x0d, 0xb8, 0, 2, 0, 0, 0, 0, 0, 0, 0, 0, 0, 0x31];
-//! let (mut session, answer) = Session::setup(&client, &[192, 0, 2, 31], EPSV);
-//! assert_eq!(answer, DONE);
+//! # fn main() -> Result<(), fashlemor::Refused> {
+//! let client = "2001:db8:2::31".parse().unwrap();
+//! let mapped = "192.0.2.31".parse().unwrap();
+//! let mut session = Session::setup(&Setup { client, mapped, flags: fashlemor::EPSV })?;
 //!
-//! let (mut to_server, mut to_client) = ([0; 2048], [0; 2048]);
-//! let call = session.arrive(SERVER, b"220 hi\r\n", &mut to_server, &mut to_client);
+//! let (mut to_server, mut to_client) = ([0; ROOM], [0; ROOM]);
+//! let call = session.arrive(Direction::Server, b"220 hi\r\n", &mut to_server, &mut to_client)?;
 //! assert_eq!(&to_client[..call.to_client], b"220 hi\r\n");
 //!
-//! let call = session.arrive(CLIENT, b"EPSV\r\n", &mut to_server, &mut to_client);
+//! let call = session.arrive(Direction::Client, b"EPSV\r\n", &mut to_server, &mut to_client)?;
 //! assert_eq!(&to_server[..call.to_server], b"PASV\r\n");
 //!
 //! let passive = b"227 Entering Passive Mode (192,0,2,31,237,19)\r\n";
-//! let call = session.arrive(SERVER, passive, &mut to_server, &mut to_client);
-//! assert_eq!((call.answer, call.taken), (DONE, passive.len()));
+//! let call = session.arrive(Direction::Server, passive, &mut to_server, &mut to_client)?;
+//! assert_eq!((call.stop, call.taken), (Stop::Done, passive.len()));
 //! let extended = b"229 Entering Extended Passive Mode (|||60691|)\r\n";
 //! assert_eq!(&to_client[..call.to_client], extended);
+//!
+//! // The record can be kept, and taken up again.
+//! let kept = *session.record();
+//! assert_eq!(Session::from_record(&kept)?, session);
+//! # Ok(())
+//! # }
 //! ```
 
 #![deny(unsafe_code)]
 
 #[allow(unsafe_code)]
 mod ffi;
+pub mod raw;
 
-pub use ffi::{arrive, end, offset, setup};
+use std::error::Error;
+use std::fmt;
+use std::net::{Ipv4Addr, Ipv6Addr};
 
 /// The octets of a record.
 pub const RECORD: usize = 1093;
@@ -37,30 +48,93 @@ pub const RECORD: usize = 1093;
 /// The octets of a setup: the two addresses and the flags.
 pub const SETUP: usize = 21;
 
-/// Direction of what the client sends.
-pub const CLIENT: u8 = 0;
-/// Direction of what the server sends.
-pub const SERVER: u8 = 1;
+/// With this much room in each buffer an arrival that is not refused, and not stopped by
+/// [`Stop::QueueFull`], takes at least one of its octets.
+pub const ROOM: usize = 1280;
 
-/// The flags of a setup.
+/// With this much room in the buffer that it goes to, an end never stops for room.
+pub const END_ROOM: usize = 511;
+
+/// The flags of a setup: EPSV translation is on.
 pub const EPSV: u8 = 1;
+/// EPRT is supported.
 pub const EPRT_SUPPORTED: u8 = 2;
+/// EPRT translation is on; only where it is supported.
 pub const EPRT: u8 = 4;
 
-/// What a call answers.
-pub const DONE: u8 = 0;
-pub const QUEUE_FULL: u8 = 1;
-pub const NO_ROOM: u8 = 2;
-pub const UNKNOWN_DIRECTION: u8 = 3;
-pub const BAD_RECORD: u8 = 4;
-pub const BAD_SETUP: u8 = 5;
-pub const DIRECTION_ENDED: u8 = 6;
+/// Whose octets arrive or end.
+#[derive(Clone, Copy, Debug, PartialEq, Eq, Hash)]
+pub enum Direction {
+    Client,
+    Server,
+}
 
-/// What an arrival or an end did: its answer, how many octets it took, and how many it wrote to
-/// the front of each buffer.
-#[derive(Clone, Copy, Debug, PartialEq, Eq)]
+impl Direction {
+    fn number(self) -> u64 {
+        match self {
+            Direction::Client => raw::CLIENT,
+            Direction::Server => raw::SERVER,
+        }
+    }
+}
+
+/// What a setup gives: the client's address, its mapped address, and a sum of the flags.
+#[derive(Clone, Copy, Debug, PartialEq, Eq, Hash)]
+pub struct Setup {
+    pub client: Ipv6Addr,
+    pub mapped: Ipv4Addr,
+    pub flags: u8,
+}
+
+impl Setup {
+    /// Its octets, in their order.
+    pub fn octets(&self) -> [u8; SETUP] {
+        let mut octets = [0; SETUP];
+        octets[..16].copy_from_slice(&self.client.octets());
+        octets[16..20].copy_from_slice(&self.mapped.octets());
+        octets[20] = self.flags;
+        octets
+    }
+}
+
+/// Why a call ended.
+#[derive(Clone, Copy, Debug, PartialEq, Eq, Hash)]
+pub enum Stop {
+    /// All octets were taken.
+    Done,
+    /// Sixteen replies are owed to the client: the rest waits in the host until the server's octets
+    /// were handed in. After the server's end it never clears.
+    QueueFull,
+    /// The next octet's output has no room: the rest is to be handed in with empty buffers.
+    NoRoom,
+}
+
+/// Why a call was refused: nothing was taken or written, and the record is as it was.
+#[derive(Clone, Copy, Debug, PartialEq, Eq, Hash)]
+pub enum Refused {
+    BadRecord,
+    BadSetup,
+    DirectionEnded,
+}
+
+impl fmt::Display for Refused {
+    fn fmt(&self, f: &mut fmt::Formatter<'_>) -> fmt::Result {
+        f.write_str(match self {
+            Refused::BadRecord => "these octets are no record of a session",
+            Refused::BadSetup => "the flags are undefined, or EPRT is on and not supported",
+            Refused::DirectionEnded => "that direction has ended",
+        })
+    }
+}
+
+impl Error for Refused {}
+
+/// What an arrival or an end did: why it ended, how many octets it took, and how many it wrote to
+/// the front of each buffer. A host that drops it loses octets.
+#[must_use]
+#[derive(Clone, Copy, Debug, PartialEq, Eq, Hash)]
 pub struct Called {
-    pub answer: u8,
+    pub stop: Stop,
     pub taken: usize,
     pub to_server: usize,
     pub to_client: usize,
@@ -74,35 +148,91 @@ pub struct Session {
 }
 
 impl Session {
-    /// A fresh session, and 0; or 5 and a session that every call refuses by 4.
-    pub fn setup(client: &[u8; 16], mapped: &[u8; 4], flags: u8) -> (Session, u8) {
+    /// A fresh session.
+    pub fn setup(setup: &Setup) -> Result<Session, Refused> {
         let mut record = [0; RECORD];
-        let mut octets = [0; SETUP];
-        octets[..16].copy_from_slice(client);
-        octets[16..20].copy_from_slice(mapped);
-        octets[20] = flags;
-        let answer = setup(&mut record, &octets);
-        (Session { record }, answer)
+        match raw::setup(&mut record, &setup.octets()) {
+            raw::DONE => Ok(Session { record }),
+            _ => Err(Refused::BadSetup),
+        }
     }
 
     /// Octets of a direction arrive.
     pub fn arrive(
         &mut self,
-        direction: u8,
+        direction: Direction,
         octets: &[u8],
         to_server: &mut [u8],
         to_client: &mut [u8],
-    ) -> Called {
-        arrive(&mut self.record, direction, octets, to_server, to_client)
+    ) -> Result<Called, Refused> {
+        let number = direction.number();
+        called(raw::arrive(
+            &mut self.record,
+            number,
+            octets,
+            to_server,
+            to_client,
+        ))
     }
 
     /// A direction ends.
-    pub fn end(&mut self, direction: u8, to_server: &mut [u8], to_client: &mut [u8]) -> Called {
-        end(&mut self.record, direction, to_server, to_client)
+    pub fn end(
+        &mut self,
+        direction: Direction,
+        to_server: &mut [u8],
+        to_client: &mut [u8],
+    ) -> Result<Called, Refused> {
+        called(raw::end(
+            &mut self.record,
+            direction.number(),
+            to_server,
+            to_client,
+        ))
     }
 
     /// Octets written for a direction minus those taken from it, modulo 2^32.
-    pub fn offset(&self, direction: u8) -> Option<u32> {
-        offset(&self.record, direction)
+    pub fn offset(&self, direction: Direction) -> u32 {
+        raw::offset(&self.record, direction.number()).unwrap_or(0)
     }
+
+    /// The record's octets.
+    pub fn record(&self) -> &[u8; RECORD] {
+        &self.record
+    }
+
+    /// The session of a record's octets, unless calls on it would be refused as a bad record.
+    pub fn from_record(record: &[u8; RECORD]) -> Result<Session, Refused> {
+        let mut session = Session { record: *record };
+        match session.arrive(Direction::Client, &[], &mut [], &mut []) {
+            Err(Refused::BadRecord) => Err(Refused::BadRecord),
+            _ => Ok(session),
+        }
+    }
+}
+
+impl fmt::Debug for Session {
+    /// Its offsets; the record's octets would say little.
+    fn fmt(&self, f: &mut fmt::Formatter<'_>) -> fmt::Result {
+        f.debug_struct("Session")
+            .field("client_offset", &self.offset(Direction::Client))
+            .field("server_offset", &self.offset(Direction::Server))
+            .finish_non_exhaustive()
+    }
+}
+
+/// A call by its number. A [`Session`] names no direction that there is not.
+fn called(call: raw::Called) -> Result<Called, Refused> {
+    let stop = match call.answer {
+        raw::DONE => Stop::Done,
+        raw::QUEUE_FULL => Stop::QueueFull,
+        raw::NO_ROOM => Stop::NoRoom,
+        raw::DIRECTION_ENDED => return Err(Refused::DirectionEnded),
+        _ => return Err(Refused::BadRecord),
+    };
+    Ok(Called {
+        stop,
+        taken: call.taken,
+        to_server: call.to_server,
+        to_client: call.to_client,
+    })
 }

@@ -1,4 +1,4 @@
--- `hosts::promised_arrival` meets its contract: it is what C calls, whose five equations are the promise, and the octets of the memory are the record's.
+-- `hosts::promised_arrival` meets its contract: it is what C calls, whose equations are the promise, and the octets of the memory are the record's.
 use native.Mathlib.Omega.{arith}
 use borrow.Author.Needs.{needs}
 use Rattle.rules.specs.Demand3.{arrival}
@@ -11,17 +11,15 @@ use Rattle.hosts.proofs.promised_arrival.Tie as tie
 returns : tie.Need-returns
 unfolding outcomeAt
 returns c =
-    let first = c .before .before .before .before .before .before .before .before .before .before .before .before .before .before .before .before .before in
+    let first = c .before .before .before .before .before .before .before .before .before .before .before .before .before .before in
     let a = first .before .args in
-    let e = c .before .before .before .before .before .before .before .before .fashlemor-arrive .ensures in
-    let promised =
-    call-promised (a .image .now) (arrival (a .direction) (a .octets .now) (a .to-server .now) (a .to-client .now)) (a .counts .now) (e .0) (e .1 .0) (e .1 .1 .0) (e .1 .1 .1 .0) (e .1 .1 .1 .1) in (
-      record { number = e .0; memory = e .1 .0; serverBuffer = e .1 .1 .0; clientBuffer = e .1 .1 .1 .0; told = e .1 .1 .1 .1 },
+    let p = call-promised (a .image .now) (arrival (a .direction) (a .octets .now) (a .to-server .now) (a .to-client .now)) (c .before .before .before .before .before .before .fashlemor-arrive .ensures) in (
+      p .0,
       (
-        promised,
-        λ answer number room. progress-promised (a .image .now) (λ i. omega (arith, first .slice-known .given i)) (a .direction) (a .octets .now) (a .to-server .now) (a .to-client .now) _ (promised answer number room),
+        p .1,
+        λ answer number. progress-promised (a .image .now) (λ i. omega (arith, first .slice-known .given i)) (a .direction) (a .octets .now) (a .to-server .now) (a .to-client .now) _ (p .1 answer number),
       ),
     )
 
 pub promised-arrival-spec : {M : Type 1} → statement M
-promised-arrival-spec = tie.close (tie.spec (λ c κs. search needs) (λ c. search needs) (λ c. search needs) (λ c. search needs) (λ c. search needs) returns)
+promised-arrival-spec = tie.close (tie.spec (λ c κs. search needs) (λ c. search needs) (λ c. search needs) (λ c. search needs) returns)

@@ -1,4 +1,4 @@
--- `hosts::promised_end` meets its contract: it is what C calls, whose five equations are the promise.
+-- `hosts::promised_end` meets its contract: it is what C calls, whose equations are the promise.
 use borrow.Author.Needs.{needs}
 use Rattle.rules.specs.Demand3.{ending}
 use Rattle.hosts.specs.Memory.{outcomeAt}
@@ -9,11 +9,8 @@ use Rattle.hosts.proofs.promised_end.Tie as tie
 returns : tie.Need-returns
 unfolding outcomeAt
 returns c =
-    let a = c .before .before .before .before .before .before .before .before .before .before .before .before .before .before .before .before .before .args in
-    let e = c .before .before .before .before .before .before .before .before .fashlemor-end .ensures in (
-      record { number = e .0; memory = e .1 .0; serverBuffer = e .1 .1 .0; clientBuffer = e .1 .1 .1 .0; told = e .1 .1 .1 .1 },
-      call-promised (a .image .now) (ending (a .direction) (a .to-server .now) (a .to-client .now)) (a .counts .now) (e .0) (e .1 .0) (e .1 .1 .0) (e .1 .1 .1 .0) (e .1 .1 .1 .1),
-    )
+    let a = c .before .before .before .before .before .before .before .before .before .before .before .before .before .before .args in
+    call-promised (a .image .now) (ending (a .direction) (a .to-server .now) (a .to-client .now)) (c .before .before .before .before .before .before .fashlemor-end .ensures)
 
 pub promised-end-spec : {M : Type 1} → statement M
-promised-end-spec = tie.close (tie.spec (λ c κs. search needs) (λ c. search needs) (λ c. search needs) (λ c. search needs) (λ c. search needs) returns)
+promised-end-spec = tie.close (tie.spec (λ c κs. search needs) (λ c. search needs) (λ c. search needs) (λ c. search needs) returns)

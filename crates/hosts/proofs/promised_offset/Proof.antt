@@ -7,9 +7,9 @@ use Rattle.hosts.proofs.promised_offset.Tie as tie
 
 returns : tie.Need-returns
 returns c =
-    let a = c .before .before .before .before .before .before .args in
-    let e = c .before .before .fashlemor-offset .ensures in
-    (e .0, (e .1, λ known room. offset-promised (sessionOf (a .image .now)) (a .direction) (a .out .now) (e .1) known room))
+    let a = c .before .before .before .args in
+    let e = c .fashlemor-offset .ensures in
+    (e .0, (e .1, λ known. offset-promised (sessionOf (a .image .now)) (a .direction) (a .out .now) (e .1) known))
 
 pub promised-offset-spec : {M : Type 1} → statement M
-promised-offset-spec = tie.close (tie.spec (λ c κs. search needs) (λ c. search needs) returns)
+promised-offset-spec = tie.close (tie.spec (λ c κs. search needs) returns)

@@ -36,8 +36,8 @@ use Rattle.image.proofs.Writing.{image-length}
 use Rattle.image.proofs.Back.{read-back}
 use Rattle.image.proofs.Again.{record-lies}
 use Rattle.image.specs.Lent.{endedOn, imageAfter}
-use Rattle.relay.specs.Carried.{Holds, Begun, Carried, EndKeeps}
-use Rattle.relay.proofs.Calls.{kept, written-back}
+use Rattle.fashlemor.specs.Carried.{Holds, Begun, Carried, EndKeeps}
+use Rattle.fashlemor.proofs.Calls.{kept, written-back}
 
 sizes : (s : Session) → Shaped s → length (s .fixed .client) ≡ ipv6Width → Sized s
 unfolding judged

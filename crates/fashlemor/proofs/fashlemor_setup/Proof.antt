@@ -1,8 +1,8 @@
--- `relay::fashlemor_setup`: by the room for the record.
-use Rattle.relay.proofs.Calls.{no-room, room, setup-told}
+-- `fashlemor::fashlemor_setup`: by the room for the record.
+use Rattle.fashlemor.proofs.Calls.{no-room, room, setup-told}
 use borrow.Author.Needs.{needs}
-use Rattle.relay.proofs.fashlemor_setup.Statement.{statement}
-use Rattle.relay.proofs.fashlemor_setup.Tie as tie
+use Rattle.fashlemor.proofs.fashlemor_setup.Statement.{statement}
+use Rattle.fashlemor.proofs.fashlemor_setup.Tie as tie
 
 returns : tie.Need-returns
 returns c =

@@ -1,8 +1,8 @@
 -- The calls of a host in C: the number that it is told, the record's image, the buffers, the counts and the offset.
-use mathlib.Core.List.{List, _∷_}
+use mathlib.Core.List.{List, [], _∷_}
 use Prim.Native.Nat.{ℕ}
 use lib.Dec.{leb}
-use lib.ListN.{length, drop, set}
+use lib.ListN.{length}
 use Rattle.rules.specs.Octets.{choose}
 use Rattle.rules.specs.Answers.{answerNumber}
 use Rattle.rules.specs.declared.Answer.{Answer}
@@ -20,13 +20,17 @@ setupNumber image p = choose (leb imageSize (length image)) (answerNumber (p .an
 
 -- ---- arrival and end
 
--- the octets taken, written to the server and written to the client, where there is room for three numbers
-abbrev pub countsFrom : ℕ → Written → List ℕ → List ℕ
-countsFrom taken w counts = choose (leb 3 (length counts)) (taken ∷ w .server ∷ w .client ∷ drop 3 counts) counts
+-- the three counts: octets taken, written to the server and written to the client
+abbrev pub countsFrom : ℕ → Written → List ℕ
+countsFrom taken w = taken ∷ w .server ∷ w .client ∷ []
 
--- the same of what a call returned
-unfoldable pub countsAfter : Called → List ℕ → List ℕ
-countsAfter k counts = countsFrom (k .taken) (k .written) counts
+-- those of a call
+unfoldable pub countsOf : Called → List ℕ
+countsOf k = countsFrom (k .taken) (k .written)
+
+-- a direction's number in an octet: every number but 0 and 1 is refused with 3, and 2 stands for them all
+unfoldable pub narrow : ℕ → ℕ
+narrow d = choose (leb 2 d) 2 d
 
 -- ---- offset
 
@@ -35,7 +39,7 @@ unfoldable pub offsetNumber : DirectionOffset → ℕ
 offsetNumber (DirectionOffset.Is n) = answerNumber Answer.Done
 offsetNumber DirectionOffset.UnknownDirection = answerNumber Answer.UnknownDirection
 
--- the first number, where there is one
-unfoldable pub offsetAfter : DirectionOffset → List ℕ → List ℕ
-offsetAfter (DirectionOffset.Is n) out = set out 0 n
-offsetAfter DirectionOffset.UnknownDirection out = out
+-- the number that the offset is set to; it stays as it was for a direction that there is not
+unfoldable pub offsetAfter : DirectionOffset → ℕ → ℕ
+offsetAfter (DirectionOffset.Is n) old = n
+offsetAfter DirectionOffset.UnknownDirection old = old
