@@ -2,6 +2,7 @@
 use octets::Number;
 use octets::find;
 use octets::read_number;
+use rules::IPV6;
 ghost use mathlib.Core.Path.{_≡_};
 ghost use mathlib.Core.List.{[], _∷_};
 ghost use mathlib.Core.Option.{none, some};
@@ -17,7 +18,7 @@ ghost use Rattle.address.specs.Text.{ipv6Read, groupGives, octetsOf, Rea
 // An address that a text writes, or none, and then the octets are zeros.
 pub struct Ipv6Read {
     pub valid: bool,
-    pub octets: [u8; 16],
+    pub octets: [u8; IPV6],
 }
 
 // The octets of a group of hex digits.
@@ -30,7 +31,7 @@ enum Group {
 struct Reading {
     pub valid: bool,
     pub count: usize,
-    pub octets: [u8; 16],
+    pub octets: [u8; IPV6],
 }
 
 // The value of a hex digit, and 16 for any other octet.
@@ -75,7 +76,7 @@ fn nothing_yet() -> Reading
     Reading {
         valid: true,
         count: 0,
-        octets: [0u8; 16],
+        octets: [0u8; IPV6],
     }
 }
 
@@ -86,7 +87,7 @@ fn refused() -> Reading
     Reading {
         valid: false,
         count: 0,
-        octets: [0u8; 16],
+        octets: [0u8; IPV6],
     }
 }
 
@@ -228,7 +229,7 @@ fn no_address() -> Ipv6Read
 {
     Ipv6Read {
         valid: false,
-        octets: [0u8; 16],
+        octets: [0u8; IPV6],
     }
 }
 
@@ -251,7 +252,7 @@ fn eight_groups(read: Reading) -> Ipv6Read
 }
 
 // The first n octets of src put into dst from `at` on.
-fn pasted(dst: [u8; 16], at: usize, src: [u8; 16], n: usize) -> [u8; 16]
+fn pasted(dst: [u8; IPV6], at: usize, src: [u8; IPV6], n: usize) -> [u8; IPV6]
     requires { ⌜ at + n ≤ 16 ⌝ }
     ensures { λ r. ⌜ r ≡ paste dst at src n ⌝ }
 {
@@ -282,7 +283,7 @@ fn filled(before: Reading, after: Reading) -> Ipv6Read
     }
     let head = before.octets;
     let tail = after.octets;
-    let octets = pasted(pasted([0u8; 16], 0, head, m), 16 - n, tail, n);
+    let octets = pasted(pasted([0u8; IPV6], 0, head, m), IPV6 - n, tail, n);
     Ipv6Read {
         valid: true,
         octets,

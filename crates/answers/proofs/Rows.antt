@@ -34,7 +34,7 @@ use Rattle.answers.specs.Table.{
   Zero,
   StopsAt,
   After,
-  heldOctets,
+  heldGives,
   HeldExceed,
   Ends,
   BadFlags,
@@ -246,21 +246,21 @@ module _ (s : Session) (rs rc : ℕ) where
 
   exceed : (d : ℕ) → heldFit (sideOf d) ≡ false → HeldExceed (endCall d)
   unfolding endStep
-  exceed zero e = by-sum (no-room (heldOctets client s) [] rs rc e)
+  exceed zero e = by-sum (no-room (heldGives client s) [] rs rc e)
     where
-      by-sum : (rs < length (heldOctets client s)) ⊎ (rc < 0) → rs < length (heldOctets client s)
+      by-sum : (rs < length (heldGives client s)) ⊎ (rc < 0) → rs < length (heldGives client s)
       by-sum (inl h) = h
       by-sum (inr h) = absurd (omega arith)
-  exceed (suc d) e = by-sum (no-room [] (heldOctets server s) rs rc e)
+  exceed (suc d) e = by-sum (no-room [] (heldGives server s) rs rc e)
     where
-      by-sum : (rs < 0) ⊎ (rc < length (heldOctets server s)) → rc < length (heldOctets server s)
+      by-sum : (rs < 0) ⊎ (rc < length (heldGives server s)) → rc < length (heldGives server s)
       by-sum (inl h) = absurd (omega arith)
       by-sum (inr h) = h
 
   not-exceed : (d : ℕ) → heldFit (sideOf d) ≡ true → HeldExceed (endCall d) → ⊥
   unfolding endStep
-  not-exceed zero e h = room (heldOctets client s) [] rs rc e (inl h)
-  not-exceed (suc d) e h = room [] (heldOctets server s) rs rc e (inr h)
+  not-exceed zero e h = room (heldGives client s) [] rs rc e (inl h)
+  not-exceed (suc d) e h = room [] (heldGives server s) rs rc e (inr h)
 
   end-low : (d : Side) (b : Bool) → numberOf (endOutcome s d (atEnd d) b) < 3
   unfolding endOutcome outcome refused answerNumber

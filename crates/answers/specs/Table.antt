@@ -156,8 +156,8 @@ module _ (c : Situation) (octets : List ℕ) where
 -- ---- an end
 
 -- what the octets give that a direction holds, and the room in the buffer that it goes into
-abbrev pub heldOctets : Side → Session → List ℕ
-heldOctets d s = passed (heldOf d (stateOf s))
+abbrev pub heldGives : Side → Session → List ℕ
+heldGives d s = passed (heldOf d (stateOf s))
 
 -- that room: the client's octets go to the server, and the server's to the client
 abbrev pub roomFor : Side → Situation → ℕ
@@ -166,7 +166,7 @@ roomFor server c = c .clientRoom
 
 -- 2: "at an end the held octets, exceeds the room left"
 abbrev pub HeldExceed : Situation → Type 0
-HeldExceed c = roomFor (sideOf (c .direction)) c < length (heldOctets (sideOf (c .direction)) (c .session))
+HeldExceed c = roomFor (sideOf (c .direction)) c < length (heldGives (sideOf (c .direction)) (c .session))
 
 -- what goes to the side that a direction leads to, and to the one that it comes from
 abbrev pub onward : Side → Outcome → List ℕ
@@ -180,7 +180,7 @@ back server o = o .toServer
 
 -- "Ending a direction passes its held octets on unchanged and owes nothing for them"
 pub record Ends (c : Situation) (o : Outcome) : Type 0 where
-  pub passed : onward (sideOf (c .direction)) o ≡ heldOctets (sideOf (c .direction)) (c .session)
+  pub passed : onward (sideOf (c .direction)) o ≡ heldGives (sideOf (c .direction)) (c .session)
   pub nothing : back (sideOf (c .direction)) o ≡ []
   pub taken : o .called .taken ≡ 0
   pub owed : o .called .session .control .owed ≡ c .session .control .owed

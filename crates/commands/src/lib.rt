@@ -15,6 +15,7 @@ use rules::CommandWord;
 use rules::EprtArgument;
 use rules::EpsvArgument;
 use rules::Fixed;
+use rules::IPV6;
 use rules::OwnAnswer;
 use rules::Switches;
 
@@ -134,7 +135,7 @@ fn epsv_command(on: bool, argument: &[u8]) -> Command
 }
 
 // With EPRT translation on or off, what EPRT is.
-fn eprt_command(on: bool, argument: &[u8], client: [u8; 16]) -> Command
+fn eprt_command(on: bool, argument: &[u8], client: [u8; IPV6]) -> Command
     ensures { λ r. ⌜ r ≡ choose on (eprtCommand (eprtArgument client (now (argument .entry)))) Command.Passes ⌝ }
 {
     if !on {

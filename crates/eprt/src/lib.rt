@@ -4,13 +4,14 @@ use octets::Number;
 use octets::find;
 use octets::read_number;
 use rules::EprtArgument;
+use rules::IPV6;
 ghost use mathlib.Core.Path.{_≡_};
 ghost use mathlib.Core.Option.{some};
 ghost use Rattle.rules.specs.Octets.{equal};
 ghost use Rattle.rules.specs.Commands.{fieldsArgument, eprtArgument};
 
 // Whether two addresses are the same.
-pub fn same_address(a: [u8; 16], b: [u8; 16]) -> bool
+pub fn same_address(a: [u8; IPV6], b: [u8; IPV6]) -> bool
     ensures { λ r. ⌜ r ≡ equal a b ⌝ }
 {
     let mut i = 0;
@@ -24,7 +25,7 @@ pub fn same_address(a: [u8; 16], b: [u8; 16]) -> bool
 }
 
 // The port of three fields that are 2, the client's own address and a port. Whatever else a field says leaves at once.
-fn fields_argument(protocol: &[u8], address: &[u8], port: &[u8], client: [u8; 16]) -> EprtArgument
+fn fields_argument(protocol: &[u8], address: &[u8], port: &[u8], client: [u8; IPV6]) -> EprtArgument
     ensures { λ r.
         ⌜ r ≡ fieldsArgument client (some (now (protocol .entry), now (address .entry), now (port .entry))) ⌝ }
 {
@@ -50,7 +51,7 @@ fn fields_argument(protocol: &[u8], address: &[u8], port: &[u8], client: [u8; 16
 
 // The port of an argument that names the client's own address: three fields between four delimiters, and nothing
 // after the last.
-pub fn eprt_argument(argument: &[u8], client: [u8; 16]) -> EprtArgument
+pub fn eprt_argument(argument: &[u8], client: [u8; IPV6]) -> EprtArgument
     ensures { λ r. ⌜ r ≡ eprtArgument client (now (argument .entry)) ⌝ }
 {
     if argument.len() == 0 {

@@ -4,7 +4,7 @@ use mathlib.Core.List.{List, [], _∷_, _++_}
 use Prim.Native.Nat.{ℕ}
 use lib.Dec.{eqb}
 use Rattle.rules.specs.Octets.{lf, choose}
-use Rattle.rules.specs.Lines.{isWhole}
+use Rattle.rules.specs.Lines.{isWhole, passed}
 use Rattle.rules.specs.Edition.{LineRules}
 use Rattle.rules.specs.ToClient.{Place, inLine, passing, ended, ClientState, clientOctet, lineOctetGives, held}
 
@@ -24,7 +24,7 @@ clientGives rules st ended x = []
 
 -- what a client's text gives from a state on, and at its end the octets held
 unfoldable pub byOctets : (rules : LineRules) → Client rules → List ℕ → Bool → List ℕ
-byOctets rules c [] atEnd = choose atEnd (held (c .place)) []
+byOctets rules c [] atEnd = choose atEnd (passed (held (c .place))) []
 byOctets rules c (x ∷ xs) atEnd =
     let next = clientOctet rules (c .lineState) (c .place) x .state in
     clientGives rules (c .lineState) (c .place) x ++ byOctets rules next xs atEnd

@@ -122,8 +122,8 @@ controlIn image =
     }
 
 -- what the setup fixed
-abbrev pub fixedAt : List ℕ → Fixed
-fixedAt image =
+abbrev pub fixedIn : List ℕ → Fixed
+fixedIn image =
     record {
       client = part image clientAt ipv6Width;
       mapped = part image mappedAt ipv4Width;
@@ -135,7 +135,7 @@ unfoldable pub fieldsIn : List ℕ → Session
 fieldsIn image =
     record {
       live = isSet image liveAt;
-      fixed = fixedAt image;
+      fixed = fixedIn image;
       control = controlIn image;
       command = part image commandAt mostHeld;
       reply = part image replyAt mostHeld;

@@ -19,7 +19,7 @@ putAt out at src = choose (fitsAt out at src) (take at out ++ (src ++ drop (at +
 unfoldable pub positionAfter : List ℕ → ℕ → List ℕ → ℕ
 positionAfter out at src = choose (fitsAt out at src) (at + length src) at
 
--- what a writer promises: src is put, and the position behind it returned
+-- what a writer promises: src is put whole or not at all, and the next position returned
 abbrev pub Put : List ℕ → ℕ → List ℕ → ℕ → List ℕ → Type 0
 Put out at src next after = (next ≡ positionAfter out at src) × (after ≡ putAt out at src)
 

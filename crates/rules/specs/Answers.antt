@@ -54,7 +54,7 @@ fits toServer toClient serverRoom clientRoom = leb (length toServer) serverRoom 
 unfoldable pub soundHeld : Bool → ℕ → Bool
 soundHeld mayHold held = choose mayHold (leb held mostHeld) (eqb held 0)
 
--- not 4: not "record not live, over 16 owed, an owed kind not listed here", and no side's held octets
+-- not 4: not "record not live, over 16 owed, an owed kind not listed here", nor a side's held octets as above
 unfoldable pub soundRecord : Bool → ℕ → Bool → Bool → Bool → Bool
 soundRecord live owed kindsListed clientHeld serverHeld =
     live && leb owed mostOwed && kindsListed && clientHeld && serverHeld

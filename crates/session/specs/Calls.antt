@@ -30,7 +30,7 @@ use Rattle.steps.specs.Takes.{Took, takes, takes-opened}
 
 -- ---- setup
 
--- arrays and counts of zeros
+-- an array of a line, all zero
 abbrev pub noOctets : List ℕ
 noOctets = replicate mostHeld 0
 
@@ -84,7 +84,7 @@ prepared su =
 abbrev pub refusedSetup : Prepared
 refusedSetup = record { answer = Answer.BadSetup; session = deadSession }
 
--- the same from octets; fewer or more than a setup has are refused
+-- a setup from octets; fewer or more than it has are refused
 unfoldable pub preparedFrom : List ℕ → Prepared
 preparedFrom octets = choose (eqb (length octets) setupSize) (prepared (setupIn octets)) refusedSetup
 

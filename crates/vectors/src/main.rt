@@ -92,7 +92,7 @@ fn print_address(text: &[u8]) {
     print_octets(octets);
 }
 
-fn print_octets(octets: [u8; 16]) {
+fn print_octets(octets: [u8; IPV6]) {
     let mut i: usize = 0;
     while i < 16 {
         io::print_hex(STDOUT_FILENO, wide(octets[i]), 2);

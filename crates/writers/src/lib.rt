@@ -4,6 +4,7 @@ use output::decimal_length;
 use output::has_room;
 use output::put;
 use output::put_decimal;
+use rules::IPV4;
 ghost use mathlib.Core.Path.{_≡_};
 ghost use mathlib.Core.List.{[], _∷_, _++_};
 ghost use Prim.Native.Nat.{_≤_};
@@ -50,7 +51,7 @@ pub fn put_extended_passive(out: &mut [u8], at: usize, port: u16) -> usize
     put_number(out, next, port, b"|)\r\n")
 }
 
-pub fn port_line_length(mapped: [u8; 4], port: u16) -> usize
+pub fn port_line_length(mapped: [u8; IPV4], port: u16) -> usize
     ensures { λ r. ⌜ r ≡ length (portLine mapped port) ⌝ }
 {
     let high = (port / 256) as u8;
@@ -62,7 +63,7 @@ pub fn port_line_length(mapped: [u8; 4], port: u16) -> usize
     5 + numbers + 2 + 2
 }
 
-pub fn put_port_line(out: &mut [u8], at: usize, mapped: [u8; 4], port: u16) -> usize
+pub fn put_port_line(out: &mut [u8], at: usize, mapped: [u8; IPV4], port: u16) -> usize
     ensures { λ r. ⌜ Put (now (out .entry)) at (portLine mapped port) r (now (out .exit)) ⌝ }
 {
     if !has_room(out.len(), at, port_line_length(mapped, port)) {
