@@ -4,11 +4,9 @@ ghost use mathlib.Core.Path.{_≡_};
 ghost use lib.Dec.{eqb};
 ghost use lib.ListN.{take};
 ghost use Rattle.rules.specs.Octets.{lf, choose};
-ghost use Rattle.rules.specs.Commands.{commandOwes, answerSwitches, commandSwitches};
-ghost use Rattle.rules.specs.Replies.{isAuth};
+ghost use Rattle.rules.specs.Commands.{answerSwitches};
 ghost use Rattle.places.specs.Places.{at as directionAt};
-ghost use Rattle.upstream.specs.Upstream.{clientEffectOf, commandEffect, judgedEffect, joinEffect, placeEffect};
-ghost use Rattle.upstream.specs.Upstream.{clientEffect};
+ghost use Rattle.upstream.specs.Upstream.{clientEffectOf, judgedEffect, joinEffect, placeEffect, clientEffect};
 use gives::Gives;
 use places::Direction;
 use places::LF;
@@ -30,45 +28,6 @@ pub struct ClientEffect {
     pub owes: Owes,
 }
 
-// What goes to the server for a command.
-fn command_gives(command: Command) -> Gives
-    ensures { λ r. ⌜ r ≡ commandEffect command ⌝ }
-{
-    match command {
-        Command::Passes => Gives::HeldAndOctet,
-        Command::Passive => Gives::Pasv,
-        Command::Port(port) => Gives::Port(port),
-        Command::Answered(_) => Gives::Nothing,
-        Command::Auth => Gives::HeldAndOctet,
-    }
-}
-
-// The kind that a command puts on the queue.
-fn command_owes(command: Command) -> Kind
-    ensures { λ r. ⌜ r ≡ commandOwes command ⌝ }
-{
-    match command {
-        Command::Passes => Kind::Plain,
-        Command::Passive => Kind::TranslatedEpsv,
-        Command::Port(_) => Kind::Plain,
-        Command::Answered(answer) => Kind::Own(answer),
-        Command::Auth => Kind::Auth,
-    }
-}
-
-// After AUTH the client's octets pass at once.
-fn command_place(command: Command) -> Place
-    ensures { λ r. ⌜ r ≡ choose (isAuth (commandOwes command)) Place.Passing Place.Holding ⌝ }
-{
-    match command {
-        Command::Passes => Place::Holding,
-        Command::Passive => Place::Holding,
-        Command::Port(_) => Place::Holding,
-        Command::Answered(_) => Place::Holding,
-        Command::Auth => Place::Passing,
-    }
-}
-
 // The switches after an own answer: a 216 tells the state that then holds.
 fn switches_answered(switches: Switches, answer: OwnAnswer) -> Switches
     ensures { λ r. ⌜ r ≡ answerSwitches switches answer ⌝ }
@@ -80,31 +39,33 @@ fn switches_answered(switches: Switches, answer: OwnAnswer) -> Switches
     }
 }
 
-// The switches after a command.
-fn switches_after(switches: Switches, command: Command) -> Switches
-    ensures { λ r. ⌜ r ≡ commandSwitches switches command ⌝ }
+// A client effect at the end of a line that owes one kind.
+fn owed(gives: Gives, place: Place, switches: Switches, kind: Kind) -> ClientEffect
+    ensures { λ r. ⌜ r ≡ clientEffectOf gives (directionAt place 0) switches (Owes.One kind) ⌝ }
 {
-    match command {
-        Command::Passes => switches,
-        Command::Passive => switches,
-        Command::Port(_) => switches,
-        Command::Answered(answer) => switches_answered(switches, answer),
-        Command::Auth => switches,
+    ClientEffect {
+        gives,
+        direction: Direction { place, held: 0 },
+        switches,
+        owes: Owes::One(kind),
     }
 }
 
-// The LF of a client line that is judged whole.
+// The LF of a client line that is judged whole. After AUTH the client's octets pass at once.
 fn judged_effect(switches: Switches, command: Command) -> ClientEffect
     ensures { λ r. ⌜ r ≡ judgedEffect switches command ⌝ }
 {
-    ClientEffect {
-        gives: command_gives(command),
-        direction: Direction {
-            place: command_place(command),
-            held: 0,
-        },
-        switches: switches_after(switches, command),
-        owes: Owes::One(command_owes(command)),
+    match command {
+        Command::Passes => owed(Gives::HeldAndOctet, Place::Holding, switches, Kind::Plain),
+        Command::Passive => owed(Gives::Pasv, Place::Holding, switches, Kind::TranslatedEpsv),
+        Command::Port(port) => owed(Gives::Port(port), Place::Holding, switches, Kind::Plain),
+        Command::Answered(answer) => owed(
+            Gives::Nothing,
+            Place::Holding,
+            switches_answered(switches, answer),
+            Kind::Own(answer),
+        ),
+        Command::Auth => owed(Gives::HeldAndOctet, Place::Passing, switches, Kind::Auth),
     }
 }
 
@@ -128,15 +89,7 @@ fn join_effect(switches: Switches, held: usize, line: &[u8]) -> ClientEffect
         return unowed(Gives::Held, Place::Holding, held + 1, switches);
     }
     if commands::starts_auth(line) {
-        return ClientEffect {
-            gives: Gives::HeldAndOctet,
-            direction: Direction {
-                place: Place::Passing,
-                held: 0,
-            },
-            switches,
-            owes: Owes::One(Kind::Auth),
-        };
+        return owed(Gives::HeldAndOctet, Place::Passing, switches, Kind::Auth);
     }
     unowed(Gives::HeldAndOctet, Place::Flowing, 0, switches)
 }
@@ -160,15 +113,7 @@ fn flow_effect(switches: Switches, x: u8) -> ClientEffect
         (clientEffectOf Gives.Octet (directionAt Place.Flowing 0) switches Owes.Nothing) ⌝ }
 {
     if x == LF {
-        return ClientEffect {
-            gives: Gives::Octet,
-            direction: Direction {
-                place: Place::Holding,
-                held: 0,
-            },
-            switches,
-            owes: Owes::One(Kind::Plain),
-        };
+        return owed(Gives::Octet, Place::Holding, switches, Kind::Plain);
     }
     unowed(Gives::Octet, Place::Flowing, 0, switches)
 }

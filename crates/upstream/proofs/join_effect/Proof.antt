@@ -1,5 +1,4 @@
 -- By the tests on the number of octets and on AUTH.
-use mathlib.Core.Path.{refl}
 use native.Mathlib.Omega.{arith}
 use borrow.Author.Needs.{needs}
 use Rattle.upstream.specs.Upstream.{joinEffect}
@@ -16,7 +15,8 @@ returns c = chosen _ (c .before .before .is-held .ensures .0) (c .before .if1 .t
 
 returns-2 : tie.Need-returns-2
 unfolding joinEffect
-returns-2 c = passed _ (c .before .before .before .is-held .ensures .0) (c .before .before .if1 .left) (chosen _ (c .before .starts-auth .ensures) (c .if2 .taken) refl)
+returns-2 c = let t = c .before .before .before in
+    passed _ (t .before .is-held .ensures .0) (t .if1 .left) (chosen _ (c .before .before .starts-auth .ensures) (c .before .if2 .taken) (c .owed .ensures))
 
 returns-3 : tie.Need-returns-3
 unfolding joinEffect
@@ -31,6 +31,7 @@ join-effect-spec =
     add-unowed
     (λ c κs. search needs)
     returns
+    (λ c κs. search needs)
     (λ c κs. search needs)
     returns-2
     (λ c κs. search needs)
