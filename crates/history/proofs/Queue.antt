@@ -26,6 +26,7 @@ use Rattle.queue.specs.Kinds.{
   answersAtHead,
   shifted,
 }
+use Rattle.queue.specs.Heads.{firstOf}
 use Rattle.downstream.specs.Downstream.{kindRemoved, headRemoved, lineRemoves}
 use Rattle.queue.proofs.Listed.{Listed, pushed-front, listed-push, shifted-queue, listed-leave}
 use Rattle.steps.specs.Steps.{owedThen}
@@ -99,10 +100,6 @@ queue-leave {kinds} {owed} {ks} q m =
     }
 
 -- ---- the first kind, and what a server line removes
-
-abbrev pub firstOf : List Kind → Owes
-firstOf [] = Owes.Nothing
-firstOf (k ∷ ks) = Owes.One k
 
 head-first : (kinds : List ℕ) (owed : ℕ) → owed ≤ length kinds → headOf kinds owed ≡ firstOf (queueOf kinds owed)
 unfolding headOf queueOf choose

@@ -11,8 +11,9 @@ use Rattle.rules.specs.declared.OwnAnswer.{OwnAnswer}
 use Rattle.rules.specs.Answers.{longestAnswer}
 use Rattle.own.proofs.Lengths.{answer-most}
 use Rattle.queue.specs.Kinds.{kindOf, queueOf, answersAtHead}
+use Rattle.queue.specs.declared.Owes.{Owes}
 use Rattle.queue.specs.declared.NextAnswer.{NextAnswer}
-use Rattle.queue.specs.Heads.{answerOf, answerFirst}
+use Rattle.queue.specs.Heads.{firstOf, answerOf, answerFirst}
 
 module _ (kinds : List ℕ) (i owed : ℕ) where
   -- behind the last kind owed, and behind the last one that there is room for, there is none
@@ -32,13 +33,21 @@ module _ (kinds : List ℕ) (i owed : ℕ) where
       drop-cons (map kindOf (take owed kinds)) i (kindOf 0) within
       ∙ rw (List·getD-map kindOf (take owed kinds) i 0, getD-take owed kinds i 0 h)
 
-  -- what is read off a queue, from the kind that is number i
-  pub at-first : {B : Type 0} (f : List Kind → B) {k : Kind} → i < owed → i < length kinds → k ≡ kindOf (getD kinds i 0)
-      → f (k ∷ drop (suc i) (queueOf kinds owed)) ≡ f (drop i (queueOf kinds owed))
-  at-first f e h k = ap f (ap (λ (x : Kind). x ∷ drop (suc i) (queueOf kinds owed)) k ∙ sym (one-owed e h))
+by-none : (ks : List Kind) {o : Owes} → o ≡ firstOf ks → o ≡ Owes.Nothing → [] ≡ ks
+by-none [] e n = refl
+by-none (k ∷ ks) e n = let z : _≡_ {A = ℕ} 0 1 = cc in absurd (omega arith)
 
-  pub at-none : {B : Type 0} (f : List Kind → B) → drop i (queueOf kinds owed) ≡ [] → f [] ≡ f (drop i (queueOf kinds owed))
-  at-none f e = ap f (sym e)
+by-one : (ks : List Kind) {o : Owes} {k j : Kind} → o ≡ firstOf ks → o ≡ Owes.One k → k ≡ j → j ∷ drop 1 ks ≡ ks
+by-one [] e n h = let z : _≡_ {A = ℕ} 0 1 = cc in absurd (omega arith)
+by-one (i ∷ ks) {o} {k} {j} e n h = let same : j ≡ i = cc in ap (λ (x : Kind). x ∷ ks) same
+
+-- what is read off a queue from number i on, by the kind that is read there
+module _ (kinds : List ℕ) (i owed : ℕ) {B : Type 0} (f : List Kind → B) {o : Owes} (e : o ≡ firstOf (drop i (queueOf kinds owed))) where
+  pub at-none : o ≡ Owes.Nothing → f [] ≡ f (drop i (queueOf kinds owed))
+  at-none n = ap f (by-none (drop i (queueOf kinds owed)) e n)
+
+  pub at-first : {k j : Kind} → o ≡ Owes.One k → k ≡ j → f (j ∷ drop 1 (drop i (queueOf kinds owed))) ≡ f (drop i (queueOf kinds owed))
+  at-first n h = ap f (by-one (drop i (queueOf kinds owed)) e n h)
 
 -- the queue has no more kinds than are owed
 pub length-queue : (kinds : List ℕ) (owed : ℕ) → length (queueOf kinds owed) ≤ owed

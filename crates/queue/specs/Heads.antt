@@ -6,9 +6,15 @@ use lib.ListN.{length, drop}
 use Rattle.rules.specs.Octets.{choose}
 use Rattle.rules.specs.Replies.{headAnswers, authAtHead}
 use Rattle.rules.specs.declared.Kind.{Kind}
+use Rattle.queue.specs.declared.Owes.{Owes}
 use Rattle.queue.specs.declared.NextAnswer.{NextAnswer}
 use Rattle.queue.specs.declared.Plan.{Plan}
 use Rattle.queue.specs.Kinds.{answersAtHead}
+
+-- the kind that comes first
+abbrev pub firstOf : List Kind → Owes
+firstOf [] = Owes.Nothing
+firstOf (k ∷ ks) = Owes.One k
 
 -- a kind as an own answer, if it is one
 unfoldable pub answerOf : Kind → NextAnswer

@@ -8,7 +8,7 @@ ghost use Rattle.rules.specs.Answers.{mostAnswers};
 ghost use Rattle.output.specs.Buffer.{Put};
 ghost use Rattle.queue.specs.Kinds.{answerCode, codeOf, stateKind, kindOf, queueOf, headOf, answersAtHead};
 ghost use Rattle.queue.specs.Kinds.{pushed, shiftedIn, isStill};
-ghost use Rattle.queue.specs.Heads.{answerFirst, planOf};
+ghost use Rattle.queue.specs.Heads.{firstOf, answerFirst, planOf};
 use own::answer_length;
 use own::put_answer;
 use rules::Kind;
@@ -108,17 +108,27 @@ pub fn first_owed(kinds: Kinds, owed: usize) -> Owes
     Owes::One(kind_of(kinds[0]))
 }
 
+// The kind that is number `i` of the kinds owed.
+fn kind_at(kinds: Kinds, i: usize, owed: usize) -> Owes
+    ensures { λ r. ⌜ r ≡ firstOf (drop i (queueOf kinds owed)) ⌝ }
+{
+    if owed <= i {
+        return Owes::Nothing;
+    }
+    if OWED <= i {
+        return Owes::Nothing;
+    }
+    Owes::One(kind_of(kinds[i]))
+}
+
 // The own answer that is number `i` of the kinds owed.
 fn answer_at(kinds: Kinds, i: usize, owed: usize) -> NextAnswer
     ensures { λ r. ⌜ r ≡ answerFirst (drop i (queueOf kinds owed)) ⌝ }
 {
-    if owed <= i {
+    let first = kind_at(kinds, i, owed);
+    let Owes::One(kind) = first else {
         return NextAnswer::Nothing;
-    }
-    if OWED <= i {
-        return NextAnswer::Nothing;
-    }
-    let kind = kind_of(kinds[i]);
+    };
     match kind {
         Kind::Own(answer) => NextAnswer::Answer(answer),
         Kind::Plain => NextAnswer::Nothing,
@@ -198,13 +208,10 @@ pub fn push(kinds: Kinds, owed: usize, owes: Owes) -> Kinds
 fn auth_at(kinds: Kinds, from: usize, owed: usize) -> bool
     ensures { λ r. ⌜ r ≡ authAtHead (drop from (queueOf kinds owed)) ⌝ }
 {
-    if owed <= from {
+    let first = kind_at(kinds, from, owed);
+    let Owes::One(kind) = first else {
         return false;
-    }
-    if OWED <= from {
-        return false;
-    }
-    let kind = kind_of(kinds[from]);
+    };
     match kind {
         Kind::Auth => true,
         Kind::Plain => false,

@@ -1,62 +1,57 @@
--- `queue::auth_at` meets its contract: by whether a kind stands there, and which.
-use mathlib.Core.Path.{_≡_, sym, ap, _∙_}
-use native.Mathlib.Omega.{arith}
+-- `queue::auth_at` meets its contract: by the kind that stands there.
 use borrow.Author.Needs.{needs}
-use lib.ListN.{length, drop}
-use Rattle.rules.specs.Replies.{isAuth, authAtHead}
-use Rattle.rules.specs.declared.Kind.{Kind}
-use Rattle.rules.specs.Answers.{mostOwed}
-use Rattle.queue.specs.Kinds.{queueOf}
-use Rattle.queue.proofs.Answers.{none-owed, none-kept, at-first, at-none}
+use Rattle.rules.specs.Replies.{authAtHead}
+use Rattle.queue.proofs.Answers.{at-none, at-first}
 use Rattle.queue.proofs.auth_at.Statement.{statement}
 use Rattle.queue.proofs.auth_at.Tie as tie
-
--- the kind that was read
-here : (c : tie.After-kind-of) → isAuth (c .kind-of .result) ≡ authAtHead (drop (c .before .before .before .args .from) (queueOf (c .before .before .before .args .t1) (c .before .before .before .args .owed)))
-unfolding authAtHead
-here c =
-    let a = c .before .before .before .args in
-    let long : length (a .t1) ≡ mostOwed = search needs in
-    at-first (a .t1) (a .from) (a .owed) authAtHead (c .before .before .if1 .left) (omega arith) (c .kind-of .ensures)
 
 returns : tie.Need-returns
 unfolding authAtHead
 returns c =
-    let a = c .before .args in
-    at-none (a .t1) (a .from) (a .owed) authAtHead (none-owed (a .t1) (a .from) (a .owed) (c .if1 .taken))
+    let a = c .before .before .before .args in
+    at-none (a .kinds) (a .from) (a .owed) authAtHead (c .before .before .kind-at .ensures) (c .enum-told .given .1)
 
 returns-2 : tie.Need-returns-2
 unfolding authAtHead
 returns-2 c =
-    let a = c .before .before .args in
-    let long : length (a .t1) ≡ mostOwed = search needs in
-    at-none (a .t1) (a .from) (a .owed) authAtHead (none-kept (a .t1) (a .from) (a .owed) (omega arith))
+    let k = c .before .before .before in
+    let a = k .before .before .before .args in
+    at-first (a .kinds) (a .from) (a .owed) authAtHead (k .before .before .kind-at .ensures) (k .first .given .1) (c .enum-told2 .given .1)
 
 returns-3 : tie.Need-returns-3
-returns-3 c = ap (λ (k : Kind). isAuth k) (sym (c .enum-told .given .1)) ∙ here (c .before .before)
+unfolding authAtHead
+returns-3 c =
+    let k = c .before .before .before in
+    let a = k .before .before .before .args in
+    at-first (a .kinds) (a .from) (a .owed) authAtHead (k .before .before .kind-at .ensures) (k .first .given .1) (c .enum-told3 .given .1)
 
 returns-4 : tie.Need-returns-4
-returns-4 c = ap (λ (k : Kind). isAuth k) (sym (c .enum-told2 .given .1)) ∙ here (c .before .before)
+unfolding authAtHead
+returns-4 c =
+    let k = c .before .before .before in
+    let a = k .before .before .before .args in
+    at-first (a .kinds) (a .from) (a .owed) authAtHead (k .before .before .kind-at .ensures) (k .first .given .1) (c .enum-told4 .given .1)
 
 returns-5 : tie.Need-returns-5
-returns-5 c = ap (λ (k : Kind). isAuth k) (sym (c .enum-told3 .given .1)) ∙ here (c .before .before)
-
-returns-6 : tie.Need-returns-6
-returns-6 c = ap (λ (k : Kind). isAuth k) (sym (c .enum-told4 .given .1)) ∙ here (c .before .before)
+unfolding authAtHead
+returns-5 c =
+    let k = c .before .before .before in
+    let a = k .before .before .before .args in
+    at-first (a .kinds) (a .from) (a .owed) authAtHead (k .before .before .kind-at .ensures) (k .first .given .1) (c .enum-told5 .given .1)
 
 pub auth-at-spec : {M : Type 1} → statement M
 auth-at-spec =
     tie.close
     (tie.spec
-    returns
-    returns-2
-    (λ c. search needs)
     (λ c κs. search needs)
     (λ c. search needs)
     (λ c. search needs)
+    returns
     (λ c. search needs)
     (λ c. search needs)
+    (λ c. search needs)
+    (λ c. search needs)
+    returns-2
     returns-3
     returns-4
-    returns-5
-    returns-6)
+    returns-5)
