@@ -48,7 +48,7 @@ octet-bit (suc zero) e = refl
 octet-bit (suc (suc n)) e = absurd (omega (arith, leb-true (suc (suc n)) 1 e))
 
 octet-place : (n : ℕ) → leb n 3 ≡ true → placeNumber (placeOf n) ≡ n
-unfolding placeNumber placeOf
+unfolding placeOf
 octet-place zero e = refl
 octet-place (suc zero) e = refl
 octet-place (suc (suc zero)) e = refl

@@ -57,14 +57,13 @@ bit-set false = refl
 bit-set true = refl
 
 place-most : (p : Place) → leb (placeNumber p) 3 ≡ true
-unfolding placeNumber
 place-most Place.Holding = refl
 place-most Place.Flowing = refl
 place-most Place.Passing = refl
 place-most Place.Ended = refl
 
 place-back : (p : Place) → placeOf (placeNumber p) ≡ p
-unfolding placeNumber placeOf
+unfolding placeOf
 place-back Place.Holding = refl
 place-back Place.Flowing = refl
 place-back Place.Passing = refl
@@ -194,5 +193,5 @@ dead-back rest =
     fields-back deadSession rest dead-sized (omega arith) (omega arith) (omega arith) none none
 
 pub dead-zero : DeadZero
-unfolding deadSession judged imageOf marksOf numbersOf arraysOf fourOctets capped choose markOf placeNumber
+unfolding deadSession judged imageOf marksOf numbersOf arraysOf fourOctets capped choose markOf
 dead-zero = refl

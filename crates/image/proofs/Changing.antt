@@ -13,7 +13,7 @@ use Rattle.output.specs.Buffer.{putAt}
 use Rattle.output.proofs.Placing.{put-fits, length-put, one-put}
 use Rattle.output.proofs.Front.{front-put}
 use Rattle.session.specs.Calls.{endStep, sessionAfter}
-use Rattle.image.specs.Image.{placeNumber, fourOctets, capped, marksOf, numbersOf, arraysOf, imageOf, countAt, countsAt, controlIn, fieldsIn, isImage}
+use Rattle.image.specs.Image.{fourOctets, capped, marksOf, numbersOf, arraysOf, imageOf, countAt, countsAt, controlIn, fieldsIn, isImage}
 use Rattle.image.specs.Lent.{endedWith, placeAt, heldAt, writtenAt}
 use Rattle.image.proofs.Again.{image-long, fields-size, lies, count-kept}
 
@@ -65,7 +65,7 @@ module _ (image : List ℕ) (ok : isImage image ≡ true) (octets : (i : ℕ) �
   end-over : (d : Side) (n : ℕ)
       → over (over (over (imageOf (fieldsIn image)) (placeAt d) (3 ∷ [])) (heldAt d) (fourOctets 0)) (writtenAt d) (fourOctets (wrapped (countAt image (writtenAt d) + n)))
       ≡ imageOf (endedWith (fieldsIn image) d n)
-  unfolding imageOf marksOf numbersOf arraysOf fourOctets capped choose placeNumber fieldsIn controlIn countsAt sessionAfter endStep
+  unfolding imageOf marksOf numbersOf arraysOf fourOctets capped choose fieldsIn controlIn countsAt sessionAfter endStep
   end-over client n = rw (count-kept image ok octets upTakenAt, count-kept image ok octets downTakenAt, count-kept image ok octets downWrittenAt)
   end-over server n = rw (count-kept image ok octets upTakenAt, count-kept image ok octets upWrittenAt, count-kept image ok octets downTakenAt)
 

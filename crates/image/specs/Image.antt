@@ -27,7 +27,7 @@ markOf false = 0
 markOf true = 1
 
 -- a place in one octet
-unfoldable pub placeNumber : Place → ℕ
+abbrev pub placeNumber : Place → ℕ
 placeNumber Place.Holding = 0
 placeNumber Place.Flowing = 1
 placeNumber Place.Passing = 2
