@@ -165,6 +165,15 @@ static bool prepare_socket(int socket) {
         && setsockopt(socket, SOL_SOCKET, SO_KEEPALIVE, &on, sizeof on) == 0;
 }
 
+/* ICMP errors of these connections may go to a NAT64 and not here, so no segment may need one:
+ * every IPv6 link carries 1,280 octets, and over IPv4 a router may cut. */
+static bool fit_every_link(int socket, int family) {
+    int most = 1220, never = IP_PMTUDISC_DONT;
+    return family == AF_INET6
+        ? setsockopt(socket, IPPROTO_TCP, TCP_MAXSEG, &most, sizeof most) == 0
+        : setsockopt(socket, IPPROTO_IP, IP_MTU_DISCOVER, &never, sizeof never) == 0;
+}
+
 /* Binds to the mapped address, which need not be one of this machine: then IP_TRANSPARENT, and
  * with it the right to set it, is needed. */
 static bool bind_mapped(int socket) {
@@ -187,7 +196,8 @@ static bool bind_mapped(int socket) {
 /* A socket that is on its way to the server, or -1. */
 static int connect_server(struct session *s) {
     int server = socket(AF_INET, SOCK_STREAM, 0);
-    if (server >= 0 && prepare_socket(server) && (!options.bind_mapped || bind_mapped(server))
+    if (server >= 0 && prepare_socket(server) && fit_every_link(server, AF_INET)
+        && (!options.bind_mapped || bind_mapped(server))
         && (connect(server, (struct sockaddr *)&options.server, sizeof options.server) == 0
             || errno == EINPROGRESS || errno == EINTR)) {
         return server;
@@ -201,7 +211,7 @@ static int connect_server(struct session *s) {
 
 static int open_listener(void) {
     int on = 1, listener = socket(AF_INET6, SOCK_STREAM, 0);
-    if (listener < 0 || !prepare_socket(listener)
+    if (listener < 0 || !prepare_socket(listener) || !fit_every_link(listener, AF_INET6)
         || setsockopt(listener, SOL_SOCKET, SO_REUSEADDR, &on, sizeof on) != 0
         || setsockopt(listener, IPPROTO_IPV6, IPV6_V6ONLY, &on, sizeof on) != 0
         || bind(listener, (struct sockaddr *)&options.listen, sizeof options.listen) != 0
