@@ -140,19 +140,19 @@ module _ (f : Fixed) (size : length (f .mapped) ≡ ipv4Width) (octets : every i
   passive-reply-line less r (port p small) = record { most = passive-line p small }
   passive-reply-line less r unreadable = held-line less
 
-  kind-line : length h < judged → (k : Kind) (c : List ℕ) → Line (kindEffect k c)
+  kind-line : length h < judged → (k : Kind) (c : List ℕ) → Line (kindEffect f k c)
   unfolding kindEffect
   kind-line less Kind.Plain c = held-line less
   kind-line less Kind.TranslatedEpsv c = passive-reply-line less (passiveReply c) (reply-small c)
   kind-line less (Kind.Own a) c = held-line less
   kind-line less Kind.Auth c = held-line less
 
-  head-line : length h < judged → (o : Owes) (c : List ℕ) → Line (headEffect o c)
+  head-line : length h < judged → (o : Owes) (c : List ℕ) → Line (headEffect f o c)
   unfolding headEffect
   head-line less Owes.Nothing c = held-line less
   head-line less (Owes.One k) c = kind-line less k c
 
-  whole-line : length h < judged → (r : ReplyLine) (u : Bool) (o : Owes) (c : List ℕ) → Line (lineGives r u o c)
+  whole-line : length h < judged → (r : ReplyLine) (u : Bool) (o : Owes) (c : List ℕ) → Line (lineGives f r u o c)
   unfolding lineGives
   whole-line less ReplyLine.GoesOn u o c = held-line less
   whole-line less ReplyLine.Preliminary u o c = held-line less
@@ -168,7 +168,7 @@ module _ (f : Fixed) (size : length (f .mapped) ≡ ipv4Width) (octets : every i
       by-test ServerLine _ _ _ (λ e. record { together = omega (arith, ltb-true (held + 1) judged e) })
       (λ e. record { together = omega (arith, held-line less .most) })
 
-  reply-line : length h < judged → (u : Bool) (o : Owes) (p : Place) (held : ℕ) (line : List ℕ) (b : Bool) → ServerLine (replyEffect u o p held line b)
+  reply-line : length h < judged → (u : Bool) (o : Owes) (p : Place) (held : ℕ) (line : List ℕ) (b : Bool) → ServerLine (replyEffect f u o p held line b)
   unfolding replyEffect wholeLine flowingLine
   reply-line less u o Place.Holding held line true =
       let c : List ℕ = content (take held line) in record { together = omega (arith, whole-line less (replyLine c) u o c .most) }
@@ -233,7 +233,7 @@ module _ (f : Fixed) (size : length (f .mapped) ≡ ipv4Width) (octets : every i
   server-most =
       let d : Direction = s .control .server in
       let h : List ℕ = take (d .held) (s .reply) in
-      let e : ServerEffect = serverEffectIn s x in
+      let e : ServerEffect = serverEffectIn f s x in
       let less : length h < judged = omega (arith, take-most (d .held) (s .reply), sm .server) in
       let given : ServerLine f size octets h x e =
       reply-line f size octets h x less (s .control .unfinished) (headOf (s .kinds) (s .control .owed)) (d .place) (d .held) (s .reply) (eqb x lf) in

@@ -95,15 +95,15 @@ place-sound f sw Place.Flowing n h false = record { direction = none-held _ }
 place-sound f sw Place.Passing n h b = record { direction = none-held _ }
 place-sound f sw Place.Ended n h b = record { direction = none-held _ }
 
-reply-sound : (u : Bool) (o : Owes) (p : Place) (n : ℕ) (line : List ℕ) (b : Bool) → ServerSound (replyEffect u o p n line b)
+reply-sound : (f : Fixed) (u : Bool) (o : Owes) (p : Place) (n : ℕ) (line : List ℕ) (b : Bool) → ServerSound (replyEffect f u o p n line b)
 unfolding replyEffect wholeLine flowingLine replyOctet
-reply-sound u o Place.Holding n line true = record { direction = none-held _ }
-reply-sound u o Place.Holding n line false =
+reply-sound f u o Place.Holding n line true = record { direction = none-held _ }
+reply-sound f u o Place.Holding n line false =
     by-test ServerSound _ _ _ (λ e. record { direction = one-more n (ltb-true (n + 1) judged e) }) (λ e. record { direction = none-held _ })
-reply-sound u o Place.Flowing n line true = record { direction = none-held _ }
-reply-sound u o Place.Flowing n line false = record { direction = none-held _ }
-reply-sound u o Place.Passing n line b = record { direction = none-held _ }
-reply-sound u o Place.Ended n line b = record { direction = none-held _ }
+reply-sound f u o Place.Flowing n line true = record { direction = none-held _ }
+reply-sound f u o Place.Flowing n line false = record { direction = none-held _ }
+reply-sound f u o Place.Passing n line b = record { direction = none-held _ }
+reply-sound f u o Place.Ended n line b = record { direction = none-held _ }
 
 passes-sound : (d : Direction) (p : Place) → SoundDirection d → SoundDirection (directionFromNow d p)
 passes-sound d Place.Holding h = none-held _
@@ -155,15 +155,15 @@ client-turned f s x h notFull =
       reply = h .reply;
     }
 
-server-turned : (s : State) (x : ℕ) → Kept s → Kept (serverState s x (serverEffectIn s x))
+server-turned : (f : Fixed) (s : State) (x : ℕ) → Kept s → Kept (serverState s x (serverEffectIn f s x))
 unfolding serverState serverEffectIn serverEffect
-server-turned s x h =
+server-turned f s x h =
     let d : Direction = s .control .server in
-    let e : ServerEffect = serverEffectIn s x in
+    let e : ServerEffect = serverEffectIn f s x in
     record {
       queue = h .queue;
       client = h .client;
-      server = reply-sound (s .control .unfinished) (headOf (s .kinds) (s .control .owed)) (d .place) (d .held) (s .reply) (eqb x lf) .direction;
+      server = reply-sound f (s .control .unfinished) (headOf (s .kinds) (s .control .owed)) (d .place) (d .held) (s .reply) (eqb x lf) .direction;
       command = h .command;
       reply = length-stored (s .reply) (d .held) x (e .gives) ∙ h .reply;
     }
@@ -172,7 +172,7 @@ octet-kept : (f : Fixed) (d : Side) (s : State) (x : ℕ) → Kept s → isQueue
     → Kept (octetStep f d s x .state)
 unfolding octetStep clientStep serverStep
 octet-kept f client s x h notFull = settled-kept (clientState s x (clientEffectIn f s x)) 0 (client-turned f s x h notFull)
-octet-kept f server s x h notFull = settled-kept (serverState s x (serverEffectIn s x)) (serverEffectIn s x .removes) (server-turned s x h)
+octet-kept f server s x h notFull = settled-kept (serverState s x (serverEffectIn f s x)) (serverEffectIn f s x .removes) (server-turned f s x h)
 
 -- and leaves nothing to settle
 kept-settles : (s : State) (n : ℕ) → Kept s → Settled (settledState s n)
@@ -184,7 +184,7 @@ octet-settles : (f : Fixed) (d : Side) (s : State) (x : ℕ) → Kept s → isQu
     → Settled (octetStep f d s x .state)
 unfolding octetStep clientStep serverStep
 octet-settles f client s x h notFull = kept-settles (clientState s x (clientEffectIn f s x)) 0 (client-turned f s x h notFull)
-octet-settles f server s x h notFull = kept-settles (serverState s x (serverEffectIn s x)) (serverEffectIn s x .removes) (server-turned s x h)
+octet-settles f server s x h notFull = kept-settles (serverState s x (serverEffectIn f s x)) (serverEffectIn f s x .removes) (server-turned f s x h)
 
 -- ---- every octet of an arrival
 

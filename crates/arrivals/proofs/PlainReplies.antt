@@ -111,9 +111,9 @@ low-removed zero h = refl
 low-removed (suc zero) h = refl
 low-removed (suc (suc m)) h = absurd (omega arith)
 
-plain-effect : (m : ℕ) → m ≡ 0 → (c : List ℕ) → kindEffect (kindOf m) c ≡ Gives.HeldAndOctet
+plain-effect : (f : Fixed) (m : ℕ) → m ≡ 0 → (c : List ℕ) → kindEffect f (kindOf m) c ≡ Gives.HeldAndOctet
 unfolding kindEffect kindOf choose
-plain-effect m e c = rw e
+plain-effect f m e c = rw e
 
 module _ (kinds : List ℕ) (u : Bool) (owed : ℕ) (still : isStill kinds 0 owed ≡ true) where
   first-low : eqb owed 0 ≡ false → getD kinds 0 0 < 2
@@ -137,19 +137,19 @@ module _ (kinds : List ℕ) (u : Bool) (owed : ℕ) (still : isStill kinds 0 owe
   line-removes ReplyLine.Preliminary = refl
   line-removes ReplyLine.Final = final-removes (eqb owed 0) refl
 
-  final-gives : (c : List ℕ) (b v : Bool) → keepsStill kinds v (choose b 0 1) owed ≡ true
-      → choose v Gives.HeldAndOctet (headEffect (choose b Owes.Nothing (Owes.One (kindOf (getD kinds 0 0)))) c) ≡ Gives.HeldAndOctet
+  final-gives : (f : Fixed) (c : List ℕ) (b v : Bool) → keepsStill kinds v (choose b 0 1) owed ≡ true
+      → choose v Gives.HeldAndOctet (headEffect f (choose b Owes.Nothing (Owes.One (kindOf (getD kinds 0 0)))) c) ≡ Gives.HeldAndOctet
   unfolding headEffect choose keepsStill isPlainFirst
-  final-gives c true true h = refl
-  final-gives c true false h = refl
-  final-gives c false true h = refl
-  final-gives c false false h = plain-effect (getD kinds 0 0) (eqb-true (getD kinds 0 0) 0 (and-both (isPlainFirst kinds) (isStill kinds 1 owed) h .0)) c
+  final-gives f c true true h = refl
+  final-gives f c true false h = refl
+  final-gives f c false true h = refl
+  final-gives f c false false h = plain-effect f (getD kinds 0 0) (eqb-true (getD kinds 0 0) 0 (and-both (isPlainFirst kinds) (isStill kinds 1 owed) h .0)) c
 
-  line-gives : (r : ReplyLine) (c : List ℕ) → keepsStill kinds u (plainRemoves r owed) owed ≡ true → lineGives r u (headOf kinds owed) c ≡ Gives.HeldAndOctet
+  line-gives : (f : Fixed) (r : ReplyLine) (c : List ℕ) → keepsStill kinds u (plainRemoves r owed) owed ≡ true → lineGives f r u (headOf kinds owed) c ≡ Gives.HeldAndOctet
   unfolding lineGives plainRemoves headOf
-  line-gives ReplyLine.GoesOn c h = refl
-  line-gives ReplyLine.Preliminary c h = refl
-  line-gives ReplyLine.Final c h = final-gives c (eqb owed 0) u h
+  line-gives f ReplyLine.GoesOn c h = refl
+  line-gives f ReplyLine.Preliminary c h = refl
+  line-gives f ReplyLine.Final c h = final-gives f c (eqb owed 0) u h
 
   -- the queue is still behind what leaves
   kept-still : (n : ℕ) → keepsStill kinds u n owed ≡ true → isStill kinds n owed ≡ true
@@ -185,15 +185,15 @@ module _ (f : Fixed) (s : State) (place : s .control .server .place ≡ Place.Ho
   answeredNext =
       stateFrom (answeredControl (s .control) 0 (s .control .owed - n) (leavesUnfinished r)) (s .command) (s .reply) (shifted (s .kinds) n (s .control .owed))
 
-  line-effect : serverEffectIn s lf ≡ serverEffectOf Gives.HeldAndOctet (at Place.Holding 0) n (leavesUnfinished r)
+  line-effect : serverEffectIn f s lf ≡ serverEffectOf Gives.HeldAndOctet (at Place.Holding 0) n (leavesUnfinished r)
   unfolding serverEffectIn serverEffect replyEffect wholeLine
   line-effect =
       let c = s .control in
       let o = headOf (s .kinds) (c .owed) in
       let t = content (take (c .server .held) (s .reply)) in
-      ap (λ (p : Place). replyEffect (c .unfinished) o p (c .server .held) (s .reply) true) place
-      ∙ ((λ i. serverEffectOf (lineGives (sym read i) (c .unfinished) o t) (at Place.Holding 0) (lineRemoves (sym read i) o) (leavesUnfinished (sym read i)))
-      ∙ (λ i. serverEffectOf (line-gives (s .kinds) (c .unfinished) (c .owed) still r t keeps i) (at Place.Holding 0)
+      ap (λ (p : Place). replyEffect f (c .unfinished) o p (c .server .held) (s .reply) true) place
+      ∙ ((λ i. serverEffectOf (lineGives f (sym read i) (c .unfinished) o t) (at Place.Holding 0) (lineRemoves (sym read i) o) (leavesUnfinished (sym read i)))
+      ∙ (λ i. serverEffectOf (line-gives (s .kinds) (c .unfinished) (c .owed) still f r t keeps i) (at Place.Holding 0)
       (line-removes (s .kinds) (c .unfinished) (c .owed) still r i) (leavesUnfinished r)))
 
   pub server-line : octetStep f server s lf ≡ stepTo answeredNext [] (take (s .control .server .held) (s .reply) ++ (lf ∷ []))

@@ -108,7 +108,7 @@ server-kept s settled p n line =
     }
 
 module _ (f : Fixed) (s : State) (x : ℕ) where
-  server-step : (g : Gives) (d : Direction) → serverEffectIn s x ≡ serverEffectOf g d 0 (s .control .unfinished)
+  server-step : (g : Gives) (d : Direction) → serverEffectIn f s x ≡ serverEffectOf g d 0 (s .control .unfinished)
       → Settled (withReply s d (stored (s .reply) (s .control .server .held) x g))
       → octetStep f server s x
       ≡ stepTo (withReply s d (stored (s .reply) (s .control .server .held) x g)) []
@@ -126,8 +126,8 @@ module _ (f : Fixed) (s : State) (x : ℕ) where
     pub server-passes : s .control .server ≡ at Place.Passing 0 → octetStep f server s x ≡ stepTo s [] (x ∷ [])
     unfolding serverEffectIn serverEffect replyEffect givesText stored
     server-passes p =
-        let e : serverEffectIn s x ≡ serverEffectOf Gives.Octet (at Place.Passing 0) 0 (s .control .unfinished) =
-        ap (λ (d : Direction). serverEffect (s .control .unfinished) (headOf (s .kinds) (s .control .owed)) d
+        let e : serverEffectIn f s x ≡ serverEffectOf Gives.Octet (at Place.Passing 0) 0 (s .control .unfinished) =
+        ap (λ (d : Direction). serverEffect f (s .control .unfinished) (headOf (s .kinds) (s .control .owed)) d
         (s .reply) x) p in
         server-step Gives.Octet (at Place.Passing 0) e
         (subst (λ (d : Direction). Settled (withReply s d (s .reply))) p settled)
@@ -137,8 +137,8 @@ module _ (f : Fixed) (s : State) (x : ℕ) where
         → octetStep f server s x ≡ stepTo s [] (x ∷ [])
     unfolding serverEffectIn serverEffect replyEffect givesText stored
     server-flows p n =
-        let e : serverEffectIn s x ≡ serverEffectOf Gives.Octet (at Place.Flowing 0) 0 (s .control .unfinished) =
-        (λ i. replyEffect (s .control .unfinished) (headOf (s .kinds) (s .control .owed)) (p i .place) (p i .held)
+        let e : serverEffectIn f s x ≡ serverEffectOf Gives.Octet (at Place.Flowing 0) 0 (s .control .unfinished) =
+        (λ i. replyEffect f (s .control .unfinished) (headOf (s .kinds) (s .control .owed)) (p i .place) (p i .held)
         (s .reply) (n i)) in
         server-step Gives.Octet (at Place.Flowing 0) e
         (subst (λ (d : Direction). Settled (withReply s d (s .reply))) p settled)
@@ -153,7 +153,7 @@ module _ (f : Fixed) (s : State) (x : ℕ) where
     server-holds p n h =
         let k = s .control .server .held in
         let d = at Place.Holding (k + 1) in
-        let e : serverEffectIn s x ≡ serverEffectOf Gives.Held d 0 (s .control .unfinished) =
-        (λ i. replyEffect (s .control .unfinished) (headOf (s .kinds) (s .control .owed)) (p i) k (s .reply) (n i))
+        let e : serverEffectIn f s x ≡ serverEffectOf Gives.Held d 0 (s .control .unfinished) =
+        (λ i. replyEffect f (s .control .unfinished) (headOf (s .kinds) (s .control .owed)) (p i) k (s .reply) (n i))
         ∙ choose-true _ _ (lt-ltb (k + 1) judged h) in
         server-step Gives.Held d e (server-kept s settled p (k + 1) (set (s .reply) k x))

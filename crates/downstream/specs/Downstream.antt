@@ -7,6 +7,7 @@ use lib.ListN.{take}
 use Rattle.rules.specs.Octets.{lf, choose}
 use Rattle.rules.specs.Lines.{judged, content}
 use Rattle.rules.specs.Replies.{replyLine, leavesUnfinished, passiveReply}
+use Rattle.rules.specs.declared.Fixed.{Fixed}
 use Rattle.rules.specs.declared.Kind.{Kind}
 use Rattle.rules.specs.declared.ReplyLine.{ReplyLine}
 use Rattle.rules.specs.declared.PassiveReply.{PassiveReply}
@@ -44,28 +45,30 @@ unfoldable pub passiveEffect : PassiveReply → Gives
 passiveEffect (PassiveReply.Port p) = Gives.ExtendedPassive p
 passiveEffect PassiveReply.Unreadable = Gives.HeldAndOctet
 
--- the 227 that answers a translated EPSV is read, any other line passes
-unfoldable pub kindEffect : Kind → List ℕ → Gives
-kindEffect Kind.Plain c = Gives.HeldAndOctet
-kindEffect Kind.TranslatedEpsv c = passiveEffect (passiveReply c)
-kindEffect (Kind.Own a) c = Gives.HeldAndOctet
-kindEffect Kind.Auth c = Gives.HeldAndOctet
+-- the 227 that answers a translated EPSV is read, any other line passes; by what the setup fixes, of which document 01
+-- asks nothing here
+unfoldable pub kindEffect : Fixed → Kind → List ℕ → Gives
+kindEffect f Kind.Plain c = Gives.HeldAndOctet
+kindEffect f Kind.TranslatedEpsv c = passiveEffect (passiveReply c)
+kindEffect f (Kind.Own a) c = Gives.HeldAndOctet
+kindEffect f Kind.Auth c = Gives.HeldAndOctet
 
 -- the same of the first kind owed: where there is none, the line passes
-unfoldable pub headEffect : Owes → List ℕ → Gives
-headEffect Owes.Nothing c = Gives.HeldAndOctet
-headEffect (Owes.One k) c = kindEffect k c
+unfoldable pub headEffect : Fixed → Owes → List ℕ → Gives
+headEffect f Owes.Nothing c = Gives.HeldAndOctet
+headEffect f (Owes.One k) c = kindEffect f k c
 
 -- a line judged whole of content c gives itself, unless it ends a final reply of no earlier line
-unfoldable pub lineGives : ReplyLine → Bool → Owes → List ℕ → Gives
-lineGives ReplyLine.GoesOn u o c = Gives.HeldAndOctet
-lineGives ReplyLine.Preliminary u o c = Gives.HeldAndOctet
-lineGives ReplyLine.Final u o c = choose u Gives.HeldAndOctet (headEffect o c)
+unfoldable pub lineGives : Fixed → ReplyLine → Bool → Owes → List ℕ → Gives
+lineGives f ReplyLine.GoesOn u o c = Gives.HeldAndOctet
+lineGives f ReplyLine.Preliminary u o c = Gives.HeldAndOctet
+lineGives f ReplyLine.Final u o c = choose u Gives.HeldAndOctet (headEffect f o c)
 
 -- the LF of a line judged whole
-unfoldable pub wholeLine : Bool → Owes → List ℕ → ServerEffect
-wholeLine u o c =
-    let r = replyLine c in serverEffectOf (lineGives r u o c) (at Place.Holding 0) (lineRemoves r o) (leavesUnfinished r)
+unfoldable pub wholeLine : Fixed → Bool → Owes → List ℕ → ServerEffect
+wholeLine f u o c =
+    let r = replyLine c in
+    serverEffectOf (lineGives f r u o c) (at Place.Holding 0) (lineRemoves r o) (leavesUnfinished r)
 
 -- the LF of a flowing line, whose first four octets are still in the array
 unfoldable pub flowingLine : Owes → List ℕ → ServerEffect
@@ -80,17 +83,17 @@ replyOctet u held =
     (serverEffectOf Gives.HeldAndOctet (at Place.Flowing 0) 0 u)
 
 -- by the place of the direction, and whether the octet is LF
-unfoldable pub replyEffect : Bool → Owes → Place → ℕ → List ℕ → Bool → ServerEffect
-replyEffect u o Place.Holding held line true = wholeLine u o (content (take held line))
-replyEffect u o Place.Holding held line false = replyOctet u held
-replyEffect u o Place.Flowing held line true = flowingLine o line
-replyEffect u o Place.Flowing held line false = serverEffectOf Gives.Octet (at Place.Flowing 0) 0 u
-replyEffect u o Place.Passing held line b = serverEffectOf Gives.Octet (at Place.Passing 0) 0 u
-replyEffect u o Place.Ended held line b = serverEffectOf Gives.Nothing (at Place.Ended 0) 0 u
+unfoldable pub replyEffect : Fixed → Bool → Owes → Place → ℕ → List ℕ → Bool → ServerEffect
+replyEffect f u o Place.Holding held line true = wholeLine f u o (content (take held line))
+replyEffect f u o Place.Holding held line false = replyOctet u held
+replyEffect f u o Place.Flowing held line true = flowingLine o line
+replyEffect f u o Place.Flowing held line false = serverEffectOf Gives.Octet (at Place.Flowing 0) 0 u
+replyEffect f u o Place.Passing held line b = serverEffectOf Gives.Octet (at Place.Passing 0) 0 u
+replyEffect f u o Place.Ended held line b = serverEffectOf Gives.Nothing (at Place.Ended 0) 0 u
 
 -- line is the array that holds the server's octets, o the first kind owed
-unfoldable pub serverEffect : Bool → Owes → Direction → List ℕ → ℕ → ServerEffect
-serverEffect u o d line x = replyEffect u o (d .place) (d .held) line (eqb x lf)
+unfoldable pub serverEffect : Fixed → Bool → Owes → Direction → List ℕ → ℕ → ServerEffect
+serverEffect f u o d line x = replyEffect f u o (d .place) (d .held) line (eqb x lf)
 
 -- this page's definitions, for a proof that computes with them
 unfoldable pub downstream-opened : Unit {0}

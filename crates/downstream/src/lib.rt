@@ -15,6 +15,7 @@ use places::Place;
 use places::first_octets;
 use places::is_held;
 use queue::Owes;
+use rules::Fixed;
 use rules::Kind;
 use rules::PassiveReply;
 use rules::ReplyLine;
@@ -59,8 +60,8 @@ fn line_removes(reply: ReplyLine, first: Owes) -> usize
 }
 
 // What the only line of a final reply gives, by the first kind owed.
-fn kind_gives(kind: Kind, content: &[u8]) -> Gives
-    ensures { λ r. ⌜ r ≡ kindEffect kind (now (content .entry)) ⌝ }
+fn kind_gives(fixed: Fixed, kind: Kind, content: &[u8]) -> Gives
+    ensures { λ r. ⌜ r ≡ kindEffect fixed kind (now (content .entry)) ⌝ }
 {
     match kind {
         Kind::Plain => Gives::HeldAndOctet,
@@ -80,18 +81,24 @@ fn passive_gives(content: &[u8]) -> Gives
     }
 }
 
-fn head_gives(first: Owes, content: &[u8]) -> Gives
-    ensures { λ r. ⌜ r ≡ headEffect first (now (content .entry)) ⌝ }
+fn head_gives(fixed: Fixed, first: Owes, content: &[u8]) -> Gives
+    ensures { λ r. ⌜ r ≡ headEffect fixed first (now (content .entry)) ⌝ }
 {
     match first {
         Owes::Nothing => Gives::HeldAndOctet,
-        Owes::One(kind) => kind_gives(kind, content),
+        Owes::One(kind) => kind_gives(fixed, kind, content),
     }
 }
 
 // What a line judged whole gives: itself, unless it is the only line of a final reply.
-fn line_gives(reply: ReplyLine, unfinished: bool, first: Owes, content: &[u8]) -> Gives
-    ensures { λ r. ⌜ r ≡ lineGives reply unfinished first (now (content .entry)) ⌝ }
+fn line_gives(
+    fixed: Fixed,
+    reply: ReplyLine,
+    unfinished: bool,
+    first: Owes,
+    content: &[u8],
+) -> Gives
+    ensures { λ r. ⌜ r ≡ lineGives fixed reply unfinished first (now (content .entry)) ⌝ }
 {
     match reply {
         ReplyLine::GoesOn => Gives::HeldAndOctet,
@@ -100,7 +107,7 @@ fn line_gives(reply: ReplyLine, unfinished: bool, first: Owes, content: &[u8]) -
             if unfinished {
                 Gives::HeldAndOctet
             } else {
-                head_gives(first, content)
+                head_gives(fixed, first, content)
             }
         }
     }
@@ -117,12 +124,12 @@ fn leaves_unfinished(reply: ReplyLine) -> bool
 }
 
 // The LF of a server line that is judged whole.
-fn whole_line(unfinished: bool, first: Owes, content: &[u8]) -> ServerEffect
-    ensures { λ r. ⌜ r ≡ wholeLine unfinished first (now (content .entry)) ⌝ }
+fn whole_line(fixed: Fixed, unfinished: bool, first: Owes, content: &[u8]) -> ServerEffect
+    ensures { λ r. ⌜ r ≡ wholeLine fixed unfinished first (now (content .entry)) ⌝ }
 {
     let reply = replies::reply_line(content);
     ServerEffect {
-        gives: line_gives(reply, unfinished, first, content),
+        gives: line_gives(fixed, reply, unfinished, first, content),
         direction: Direction {
             place: Place::Holding,
             held: 0,
@@ -171,11 +178,23 @@ fn reply_octet(unfinished: bool, held: usize) -> ServerEffect
 }
 
 // An octet of a server line whose octets are held in `line`.
-fn hold_reply(unfinished: bool, first: Owes, held: usize, line: &[u8], x: u8) -> ServerEffect
-    ensures { λ r. ⌜ r ≡ replyEffect unfinished first Place.Holding held (now (line .entry)) (eqb x lf) ⌝ }
+fn hold_reply(
+    fixed: Fixed,
+    unfinished: bool,
+    first: Owes,
+    held: usize,
+    line: &[u8],
+    x: u8,
+) -> ServerEffect
+    ensures { λ r. ⌜ r ≡ replyEffect fixed unfinished first Place.Holding held (now (line .entry)) (eqb x lf) ⌝ }
 {
     if x == LF {
-        return whole_line(unfinished, first, lines::content(first_octets(line, held)));
+        return whole_line(
+            fixed,
+            unfinished,
+            first,
+            lines::content(first_octets(line, held)),
+        );
     }
     reply_octet(unfinished, held)
 }
@@ -194,17 +213,18 @@ fn flow_reply(unfinished: bool, first: Owes, line: &[u8], x: u8) -> ServerEffect
 
 // What a server octet x does, with the first kind owed; `line` is the array that holds the server's octets.
 pub fn server_effect(
+    fixed: Fixed,
     unfinished: bool,
     first: Owes,
     direction: Direction,
     line: &[u8],
     x: u8,
 ) -> ServerEffect
-    ensures { λ r. ⌜ r ≡ serverEffect unfinished first direction (now (line .entry)) x ⌝ }
+    ensures { λ r. ⌜ r ≡ serverEffect fixed unfinished first direction (now (line .entry)) x ⌝ }
 {
     let place = direction.place;
     match place {
-        Place::Holding => hold_reply(unfinished, first, direction.held, line, x),
+        Place::Holding => hold_reply(fixed, unfinished, first, direction.held, line, x),
         Place::Flowing => flow_reply(unfinished, first, line, x),
         Place::Passing => unremoved(Gives::Octet, Place::Passing, 0, unfinished),
         Place::Ended => unremoved(Gives::Nothing, Place::Ended, 0, unfinished),

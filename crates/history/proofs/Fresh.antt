@@ -43,7 +43,7 @@ unfolding givesText passiveEffect passiveGives
 passive-gives f l (PassiveReply.Port p) = refl
 passive-gives f l PassiveReply.Unreadable = refl
 
-final-gives : (f : Fixed) (k : Kind) (l : List ℕ) → givesText f l lf (kindEffect k (content l)) ≡ finalGives k l
+final-gives : (f : Fixed) (k : Kind) (l : List ℕ) → givesText f l lf (kindEffect f k (content l)) ≡ finalGives k l
 unfolding givesText kindEffect finalGives
 final-gives f Kind.Plain l = refl
 final-gives f Kind.TranslatedEpsv l = passive-gives f l (passiveReply (content l))

@@ -142,7 +142,7 @@ pub record Agrees (f : Fixed) (rules : LineRules) : Type 1 where
       → commandOwes (command f sw l) ≡ rules .clientLine st l .owes
   pub after : (sw : Switches) (st : rules .LineState) → Tied sw st → (l : List ℕ)
       → Tied (commandSwitches sw (command f sw l)) (rules .clientLine st l .after)
-  pub final : (k : Kind) (l : List ℕ) → givesText f l lf (kindEffect k (content l)) ≡ rules .finalLine k l
+  pub final : (k : Kind) (l : List ℕ) → givesText f l lf (kindEffect f k (content l)) ≡ rules .finalLine k l
 
 -- ---- the reply that a flowing line belongs to is known by its first four octets
 
@@ -279,7 +279,7 @@ module _ (f : Fixed) (rules : LineRules) (agree : Agrees f rules) where
   stored-passive line n x (PassiveReply.Port p) = refl
   stored-passive line n x PassiveReply.Unreadable = refl
 
-  stored-first : (line : List ℕ) (n x : ℕ) (ks : List Kind) (c : List ℕ) → stored line n x (headEffect (firstOf ks) c) ≡ line
+  stored-first : (line : List ℕ) (n x : ℕ) (ks : List Kind) (c : List ℕ) → stored line n x (headEffect f (firstOf ks) c) ≡ line
   unfolding stored headEffect kindEffect
   stored-first line n x [] c = refl
   stored-first line n x (Kind.Plain ∷ ks) c = refl
@@ -287,7 +287,7 @@ module _ (f : Fixed) (rules : LineRules) (agree : Agrees f rules) where
   stored-first line n x (Kind.Own a ∷ ks) c = refl
   stored-first line n x (Kind.Auth ∷ ks) c = refl
 
-  stored-line : (line : List ℕ) (n x : ℕ) (r : ReplyLine) (u : Bool) (ks : List Kind) (c : List ℕ) → stored line n x (lineGives r u (firstOf ks) c) ≡ line
+  stored-line : (line : List ℕ) (n x : ℕ) (r : ReplyLine) (u : Bool) (ks : List Kind) (c : List ℕ) → stored line n x (lineGives f r u (firstOf ks) c) ≡ line
   unfolding stored lineGives choose
   stored-line line n x ReplyLine.GoesOn u ks c = refl
   stored-line line n x ReplyLine.Preliminary u ks c = refl
@@ -295,7 +295,7 @@ module _ (f : Fixed) (rules : LineRules) (agree : Agrees f rules) where
   stored-line line n x ReplyLine.Final false ks c = stored-first line n x ks c
 
   -- what a line judged whole gives
-  line-gives : (h : List ℕ) (r : ReplyLine) (u : Bool) (ks : List Kind) → givesText f h lf (lineGives r u (firstOf ks) (content h)) ≡ wholeLineGives rules ks u h r
+  line-gives : (h : List ℕ) (r : ReplyLine) (u : Bool) (ks : List Kind) → givesText f h lf (lineGives f r u (firstOf ks) (content h)) ≡ wholeLineGives rules ks u h r
   unfolding lineGives headEffect wholeLineGives finalLineGives givesText choose
   line-gives h ReplyLine.GoesOn u ks = refl
   line-gives h ReplyLine.Preliminary u ks = refl
@@ -305,12 +305,12 @@ module _ (f : Fixed) (rules : LineRules) (agree : Agrees f rules) where
   line-gives h ReplyLine.Final false (k ∷ ks) = agree .final k h
 
   reply-line-fits : (line : List ℕ) (n : ℕ) (u : Bool) (ks : List Kind) → Full line → n < judged
-      → ServerFits f line n lf ks (wholeLine u (firstOf ks) (content (take n line))) (serverLine rules ks u (take n line))
+      → ServerFits f line n lf ks (wholeLine f u (firstOf ks) (content (take n line))) (serverLine rules ks u (take n line))
   unfolding wholeLine serverLine choose
   reply-line-fits line n u ks full h =
       let l : List ℕ = take n line in
       let r : ReplyLine = replyLine (content l) in
-      let kept : stored line n lf (lineGives r u (firstOf ks) (content l)) ≡ line = stored-line line n lf r u ks (content l) in
+      let kept : stored line n lf (lineGives f r u (firstOf ks) (content l)) ≡ line = stored-line line n lf r u ks (content l) in
       rw (whole l (omega (arith, length-take-le n line (omega arith))))
       (record {
         gives = line-gives l r u ks;
@@ -343,13 +343,13 @@ module _ (f : Fixed) (rules : LineRules) (agree : Agrees f rules) where
       (record { gives = refl; owed = refl; unfinished = refl; full = full; place = flowing more (sym four) })
 
   held-reply-fits : (line : List ℕ) (n x : ℕ) (u : Bool) (ks : List Kind) → Full line → n < judged → (b : Bool) → eqb x lf ≡ b
-      → ServerFits f line n x ks (replyEffect u (firstOf ks) Place.Holding n line b) (choose b (serverLine rules ks u (take n line)) (lineOctet ks u (joined line n x) x))
+      → ServerFits f line n x ks (replyEffect f u (firstOf ks) Place.Holding n line b) (choose b (serverLine rules ks u (take n line)) (lineOctet ks u (joined line n x) x))
   unfolding replyEffect choose
   held-reply-fits line n x u ks full h true p = rw (eqb-true x lf p) (reply-line-fits line n u ks full h)
   held-reply-fits line n x u ks full h false p = reply-octet-fits line n x u ks full h (ltb (n + 1) judged) refl
 
   flowing-reply-fits : (line l : List ℕ) (x : ℕ) (u : Bool) (ks : List Kind) → Full line → judged ≤ length l → FirstFour line l → (b : Bool) → eqb x lf ≡ b
-      → ServerFits f line 0 x ks (replyEffect u (firstOf ks) Place.Flowing 0 line b) (choose b (serverLine rules ks u l) (lineOctet ks u (l ++ (x ∷ [])) x))
+      → ServerFits f line 0 x ks (replyEffect f u (firstOf ks) Place.Flowing 0 line b) (choose b (serverLine rules ks u l) (lineOctet ks u (l ++ (x ∷ [])) x))
   unfolding replyEffect flowingLine serverLine lineOctet lineOctetGives choose givesText stored
   flowing-reply-fits line l x u ks full k e true p =
       rw (reply-flowing line l k e, long l k, eqb-true x lf p)
@@ -372,7 +372,7 @@ module _ (f : Fixed) (rules : LineRules) (agree : Agrees f rules) where
       })
 
   pub server-fits : (u : Bool) (ks : List Kind) {p : Place} {n : ℕ} {line : List ℕ} {q : Reading} → Stands FirstFour p n line q → Full line → (x : ℕ)
-      → ServerFits f line n x ks (replyEffect u (firstOf ks) p n line (eqb x lf)) (serverOctet rules q ks u x)
+      → ServerFits f line n x ks (replyEffect f u (firstOf ks) p n line (eqb x lf)) (serverOctet rules q ks u x)
   unfolding serverOctet replyEffect givesText stored
   server-fits u ks (holding {n = n} {line = line} h) full x = held-reply-fits line n x u ks full h (eqb x lf) refl
   server-fits u ks (flowing {line = line} {l = l} k e) full x = flowing-reply-fits line l x u ks full k e (eqb x lf) refl

@@ -137,13 +137,13 @@ module _ (f : Fixed) (rules : LineRules) (agree : Agrees f rules) where
   client-effect s c v x a = client-fits f rules agree (s .control .switches) (c .lineState) (a .tied) (a .client) (a .command) x
 
   server-effect : (s : State) (c : Client rules) (v : ServerState) (x : ℕ) → Alike agree s c v
-      → ServerFits f (s .reply) (s .control .server .held) x (v .owed) (serverEffectIn s x)
+      → ServerFits f (s .reply) (s .control .server .held) x (v .owed) (serverEffectIn f s x)
       (serverOctet rules (v .place) (v .owed) (v .unfinished) x)
   unfolding serverEffectIn serverEffect
   server-effect s c v x a = by-queue (s .control .unfinished) (v .unfinished) (headOf (s .kinds) (s .control .owed)) (a .unfinished) (queue-first (a .queue))
     where
       by-queue : (u u′ : Bool) (o : Owes) → u ≡ u′ → o ≡ firstOf (v .owed)
-          → ServerFits f (s .reply) (s .control .server .held) x (v .owed) (serverEffect u o (s .control .server) (s .reply) x)
+          → ServerFits f (s .reply) (s .control .server .held) x (v .owed) (serverEffect f u o (s .control .server) (s .reply) x)
           (serverOctet rules (v .place) (v .owed) u′ x)
       by-queue u u′ o e g = rw (e, g) (server-fits f rules agree u′ (v .owed) (a .server) (a .reply) x)
 
@@ -181,7 +181,7 @@ module _ (f : Fixed) (rules : LineRules) (agree : Agrees f rules) where
       → Octets agree c v (octet server x ∷ []) (serverStep f s x .toServer) (serverStep f s x .toClient) (serverStep f s x .state)
   unfolding serverStep serverState settledState afterOctet
   server-does s c v x a =
-      let e : ServerEffect = serverEffectIn s x in
+      let e : ServerEffect = serverEffectIn f s x in
       let r : ServerStep = serverOctet rules (v .place) (v .owed) (v .unfinished) x in
       let fit : ServerFits f (s .reply) (s .control .server .held) x (v .owed) e r = server-effect s c v x a in
       let t : State = serverState s x e in

@@ -10,7 +10,7 @@ use Rattle.downstream.proofs.hold_reply.Tie as tie
 returns : tie.Need-returns
 unfolding replyEffect
 returns c = rw (eq-eqb _ _ (c .before .before .before .if1 .taken))
-    (c .whole-line .ensures ∙ ap (wholeLine _ _) (c .before .content .ensures ∙ ap content (c .before .before .first-octets .ensures)))
+    (c .whole-line .ensures ∙ ap (wholeLine _ _ _) (c .before .content .ensures ∙ ap content (c .before .before .first-octets .ensures)))
 
 returns-2 : tie.Need-returns-2
 unfolding replyEffect
