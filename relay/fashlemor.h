@@ -6,8 +6,9 @@
  * no pointer and never waits.
  *
  * Slices are a pointer and a length. The memory is the host's for the time of the call, and what
- * one call is lent does not overlap. Where a length is 0 the pointer may be null. Nothing else is
- * asked: any octets and any lengths are answered, and nobody has to check first.
+ * one call is lent does not overlap. Where a length is 0 the pointer may be null; counts and offset
+ * may not. Nothing else is asked: any octets and any lengths are answered, and nobody has to check
+ * first.
  *
  * Records are independent of each other: threads may use different ones at once, and one record one
  * at a time. A call needs less than 2 KB of stack.
@@ -106,8 +107,9 @@ uint8_t fashlemor_end(uint8_t *record, size_t record_length,
 
 /* Sets *offset to the octets written for a direction minus those taken from it, modulo 2^32: by how
  * much sequence numbers move on the way through. Answers 0, or 3 and sets nothing. The offset is
- * that of the record's counters, also where an arrival would be refused with 4; fewer octets than a
- * record, or a mark with no value of its field (docs/RECORD.md), have the offset 0. */
+ * that of the record's counters, also where an arrival would be refused with 4. It is 0 where there
+ * are fewer octets than a record, or one of the first seven has a value that docs/RECORD.md does
+ * not list. */
 uint8_t fashlemor_offset(const uint8_t *record, size_t record_length,
                          uint64_t direction,
                          uint32_t *offset);

@@ -18,6 +18,7 @@
 #include <stdio.h>
 #include <stdlib.h>
 #include <string.h>
+#include <sys/resource.h>
 #include <sys/socket.h>
 #include <time.h>
 #include <unistd.h>
@@ -209,6 +210,20 @@ static int connect_server(struct session *s) {
     return -1;
 }
 
+/* poll(2) and accept(2) need as many files as there are sockets. */
+static void allow_files(void) {
+    struct rlimit files;
+    const rlim_t needed = 2 * SESSIONS + 8;
+    if (getrlimit(RLIMIT_NOFILE, &files) == 0 && files.rlim_cur < needed) {
+        files.rlim_cur = needed;
+        if (files.rlim_max < needed || setrlimit(RLIMIT_NOFILE, &files) != 0) {
+            say("%d sessions need %lu open files, and fewer are allowed", SESSIONS,
+                (unsigned long)needed);
+            exit(1);
+        }
+    }
+}
+
 static int open_listener(void) {
     int on = 1, listener = socket(AF_INET6, SOCK_STREAM, 0);
     if (listener < 0 || !prepare_socket(listener) || !fit_every_link(listener, AF_INET6)
@@ -392,7 +407,10 @@ static bool has_connected(struct session *s) {
     if (getsockopt(s->peers[FASHLEMOR_SERVER].socket, SOL_SOCKET, SO_ERROR, &error, &length) != 0) {
         error = errno;
     }
-    if (error != 0) {
+    /* A server may speak and reset at once: what it said is still to be read. */
+    uint8_t octet;
+    if (error != 0
+        && recv(s->peers[FASHLEMOR_SERVER].socket, &octet, sizeof octet, MSG_PEEK) <= 0) {
         say_of(s, "no connection to the server", error);
         return false;
     }
@@ -605,7 +623,9 @@ static void read_option(int option) {
     case 'h':
         fputs(usage, stdout);
         exit(0);
-    default: exit(2);
+    default:
+        fputs(usage, stderr);
+        exit(2);
     }
 }
 
@@ -668,6 +688,7 @@ int main(int count, char **words) {
     if (options.bind_mapped) {
         try_mapped();
     }
+    allow_files();
     int listener = open_listener();
     tell_address(listener);
     run(listener);

@@ -7,6 +7,7 @@
   together the rows cover the sections traced.
 - Every definition of the crates that a reader has to believe stands in docs/TRACE.md.
 - The wrong programs that docs/PROMISES.md names are there, and each public function has at least two of its name.
+- No line of the sources of the crates and of the relay is wider than it may be.
 """
 import pathlib
 import re
@@ -23,6 +24,8 @@ TRACED = ["The session", "Lines", "Client lines", "Server lines", "Demand 3 writ
 BELIEVED = ["rules", "octets", "address", "commands", "output", "queue", "places", "gives", "upstream", "downstream", "records", "steps", "session", "files", "fields", "report", "image", "fashlemor", "hosts"]
 # pages that only private functions cite
 PRIVATE = {"Core", "Runs", "PlainRuns"}
+# the columns of sources that people read side by side
+WIDTHS = {"crates/*/src/**/*.rt": 120, "relay/*.h": 100, "relay/*.c": 100}
 # how many words of document 01 may stand between two pieces that are traced
 GAP = 4
 
@@ -169,9 +172,18 @@ def faults():
             yield f"docs/TRACE.md: {module}.{name} stands in no row"
 
 
+def wide():
+    """Lines of sources over the columns that they may have."""
+    for pattern, most in WIDTHS.items():
+        for path in sorted(ROOT.glob(pattern)):
+            for number, line in enumerate(path.read_text().split("\n"), 1):
+                if len(line) > most:
+                    yield f"{path.relative_to(ROOT)}:{number}: {len(line)} columns"
+
+
 def main():
     arguments(__doc__)
-    found = list(faults())
+    found = [*faults(), *wide()]
     for fault in found:
         print(fault)
     print(f"{len(DOCUMENTS)} documents, {sum(1 for _ in definitions())} definitions, {len(found)} faults")

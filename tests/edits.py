@@ -2,6 +2,8 @@
 import pathlib
 import sys
 
+from usage import arguments
+
 ROOT = pathlib.Path(__file__).resolve().parent.parent
 
 
@@ -27,6 +29,7 @@ def faults(edit):
 
 
 def main():
+    arguments(__doc__)
     edits = sorted(ROOT.glob("crates/*/must-fail/*.edit"))
     found = [fault for edit in edits for fault in faults(edit)]
     for fault in found:

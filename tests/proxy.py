@@ -17,6 +17,8 @@ import sys
 import threading
 import time
 
+from usage import arguments
+
 ROOT = pathlib.Path(__file__).resolve().parent.parent
 SOURCE = ROOT / "relay" / "proxy.c"
 SANITIZED = ["-std=c11", "-O1", "-g", "-fsanitize=address,undefined", "-fno-sanitize-recover=all"]
@@ -702,8 +704,8 @@ def build(name, library, source):
 
 
 def main():
-    library = pathlib.Path(sys.argv[1])
-    source = pathlib.Path(sys.argv[2]) if len(sys.argv) > 2 else SOURCE
+    library, *others = (pathlib.Path(word) for word in arguments(__doc__, 1, 2))
+    source = others[0] if others else SOURCE
     results = []
     for name in BUILDS:
         program = build(name, library, source)

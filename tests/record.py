@@ -1,4 +1,4 @@
-"""docs/RECORD.md, the header and the Rust wrapper tell the record's layout as crates/records/specs/Layout.antt has it.
+"""docs/RECORD.md, the header and the Rust package tell the record's layout and the rooms as the definitions have them.
 
 The layout is read from the definitions: each name with its sum, over the numbers of the rules. The table's rows are its fields in order, each with
 the octets from where it begins to where the next one does.
@@ -57,8 +57,14 @@ def faults():
     yield from told("relay/fashlemor.h", r"^#define FASHLEMOR_RECORD (\d+)$", known["imageSize"])
     yield from told("relay/fashlemor.h", r"^#define FASHLEMOR_SETUP (\d+)$", known["setupSize"])
     yield from told("relay/fashlemor.h", r"^#define FASHLEMOR_ROOM (\d+)$", known["mostToClient"])
+    yield from told("relay/fashlemor.h", r"^#define FASHLEMOR_END_ROOM (\d+)$", known["mostHeld"])
     yield from told("relay/rust/src/lib.rs", r"^pub const RECORD: usize = ([\d_]+);$", known["imageSize"])
     yield from told("relay/rust/src/lib.rs", r"^pub const SETUP: usize = ([\d_]+);$", known["setupSize"])
+    yield from told("relay/rust/src/lib.rs", r"^pub const ROOM: usize = ([\d_]+);$", known["mostToClient"])
+    yield from told("relay/rust/src/lib.rs", r"^pub const END_ROOM: usize = ([\d_]+);$", known["mostHeld"])
+    major, minor = re.search(r'^version = "(\d+)\.(\d+)\.', (ROOT / "relay/rust/Cargo.toml").read_text(), re.M).groups()
+    yield from told("relay/fashlemor.h", r"^#define FASHLEMOR_VERSION_MAJOR (\d+)$", int(major))
+    yield from told("relay/fashlemor.h", r"^#define FASHLEMOR_VERSION_MINOR (\d+)$", int(minor))
 
 
 def main():

@@ -20,11 +20,12 @@ use rules::Answer;
 
 // A setup that is told 0 leaves a fresh record in the host's memory.
 pub fn promised_setup(image: &mut [u8], setup: &[u8]) -> u8
-    ensures { λ r. ⌜ r ≡ setupNumber (now (image .entry)) (preparedFrom (now (setup .entry))) ⌝ }
-    ensures { λ r.
+    ensures number { λ r. ⌜ r ≡ setupNumber (now (image .entry)) (preparedFrom (now (setup .entry))) ⌝ }
+    ensures memory { λ r.
         let p = preparedFrom (now (setup .entry)) in
         ⌜ now (image .exit) ≡ putAt (now (image .entry)) 0 (imageOf (p .session)) ⌝ }
-    ensures { λ r. ⌜ (r ≡ answerNumber Answer.Done → host .Fresh (setupIn (now (setup .entry))) (now (image .exit))) ⌝ }
+    ensures fresh { λ r.
+        ⌜ (r ≡ answerNumber Answer.Done → host .Fresh (setupIn (now (setup .entry))) (now (image .exit))) ⌝ }
 {
     fashlemor_setup(image, setup)
 }
@@ -38,12 +39,12 @@ pub fn promised_arrival(
     to_client: &mut [u8],
     counts: &mut [usize; 3],
 ) -> u8
-    ensures { λ r.
+    ensures does { λ r.
         let c = arrival direction (now (octets .entry)) (now («to_server» .entry)) (now («to_client» .entry)) in
         let out = now («to_server» .exit) in
         let back = now («to_client» .exit) in
         ⌜ Does (now (image .entry)) c r (now (image .exit)) out back (now (counts .exit)) ⌝ }
-    ensures { λ r.
+    ensures promise { λ r.
         let c = arrival direction (now (octets .entry)) (now («to_server» .entry)) (now («to_client» .entry)) in
         let out = now («to_server» .exit) in
         let back = now («to_client» .exit) in
@@ -66,12 +67,12 @@ pub fn promised_end(
     to_client: &mut [u8],
     counts: &mut [usize; 3],
 ) -> u8
-    ensures { λ r.
+    ensures does { λ r.
         let c = ending direction (now («to_server» .entry)) (now («to_client» .entry)) in
         let out = now («to_server» .exit) in
         let back = now («to_client» .exit) in
         ⌜ Does (now (image .entry)) c r (now (image .exit)) out back (now (counts .exit)) ⌝ }
-    ensures { λ r.
+    ensures promise { λ r.
         let c = ending direction (now («to_server» .entry)) (now («to_client» .entry)) in
         let out = now («to_server» .exit) in
         let back = now («to_client» .exit) in
@@ -83,10 +84,10 @@ pub fn promised_end(
 
 // The offset that is set for a direction that there is, is the host's.
 pub fn promised_offset(image: &[u8], direction: u64, out: &mut u32) -> u8
-    ensures { λ r. ⌜ r ≡ offsetNumber (offsetIn (sessionOf (now (image .entry))) direction) ⌝ }
-    ensures { λ r.
+    ensures number { λ r. ⌜ r ≡ offsetNumber (offsetIn (sessionOf (now (image .entry))) direction) ⌝ }
+    ensures set { λ r.
         ⌜ now (out .exit) ≡ offsetAfter (offsetIn (sessionOf (now (image .entry))) direction) (now (out .entry)) ⌝ }
-    ensures { λ r. ⌜ (direction < 2 → now (out .exit) ≡ host .offset (now (image .entry)) (sideOf direction)) ⌝ }
+    ensures kept { λ r. ⌜ (direction < 2 → now (out .exit) ≡ host .offset (now (image .entry)) (sideOf direction)) ⌝ }
 {
     fashlemor_offset(image, direction, out)
 }

@@ -103,7 +103,7 @@ pub enum Stop {
     /// All octets were taken.
     Done,
     /// Sixteen replies are owed to the client: the rest waits in the host until the server's octets
-    /// were handed in. After the server's end it never clears.
+    /// were handed in. After the server's end it never clears: drop what waits, and close the client.
     QueueFull,
     /// The next octet's output has no room: the rest is to be handed in with empty buffers.
     NoRoom,
@@ -157,7 +157,8 @@ impl Session {
         }
     }
 
-    /// Octets of a direction arrive.
+    /// Octets of a direction arrive. What was not taken is to be handed in again. The client's octets
+    /// may write to both sides.
     pub fn arrive(
         &mut self,
         direction: Direction,
@@ -175,7 +176,8 @@ impl Session {
         ))
     }
 
-    /// A direction ends.
+    /// A direction ends, when nothing of it waits in the host: the held octets of its unfinished line
+    /// are written to the other side. Where they have no room, nothing was changed.
     pub fn end(
         &mut self,
         direction: Direction,
