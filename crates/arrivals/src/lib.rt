@@ -8,10 +8,10 @@ ghost use Rattle.rules.specs.declared.Fixed.{Fixed};
 ghost use Rattle.steps.specs.Takes.{takes, tookIn, fixedLent, addressesLent, stateLent, coreLent, Given};
 ghost use Rattle.steps.specs.Core.{Bounded};
 ghost use Rattle.arrivals.specs.Runs.{Ran};
-use output::sixteen;
 use places::Direction;
 use places::LF;
 use plain::plain_lines;
+use queue::kinds_from;
 use records::Control;
 use records::holdable;
 use records::layout::LENT_COMMAND;
@@ -240,7 +240,7 @@ fn next_run(
     }
     let then = plain.control;
     let given = plain.written;
-    let kinds = sixteen(&lent[LENT_KINDS..LENT_COMMAND]);
+    let kinds = kinds_from(&lent[LENT_KINDS..LENT_COMMAND]);
     any_run(
         from_client,
         then,

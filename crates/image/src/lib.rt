@@ -11,11 +11,12 @@ ghost use Rattle.session.specs.Calls.{deadSession};
 ghost use Rattle.image.specs.Image.{markOf as bitOf, placeNumber, fourOctets, capped as cappedAt, marksIn};
 ghost use Rattle.image.specs.Image.{marksFrom, numbersBy, numbersFrom, arraysOf, imageOf, placeOf, countAt};
 ghost use Rattle.image.specs.Image.{countsAt, controlIn, fieldsIn, atMost, isImage, sessionOf};
-use output::four;
+use output::ipv4_from;
+use output::ipv6_from;
 use output::put;
-use output::sixteen;
 use places::Direction;
 use places::Place;
+use queue::kinds_from;
 use records::Control;
 use records::Counts;
 use records::Refusal;
@@ -235,9 +236,9 @@ fn fields(image: &[u8]) -> Session
 {
     let live = image[layout::LIVE] == 1;
     let supported = image[layout::SUPPORTED] == 1;
-    let client = sixteen(&image[layout::CLIENT..layout::MAPPED]);
-    let mapped = four(&image[layout::MAPPED..layout::KINDS]);
-    let kinds = sixteen(&image[layout::KINDS..layout::COMMAND]);
+    let client = ipv6_from(&image[layout::CLIENT..layout::MAPPED]);
+    let mapped = ipv4_from(&image[layout::MAPPED..layout::KINDS]);
+    let kinds = kinds_from(&image[layout::KINDS..layout::COMMAND]);
     let command = held_line(&image[layout::COMMAND..layout::REPLY]);
     let reply = held_line(&image[layout::REPLY..layout::SIZE]);
     let control = control_in(image);
@@ -266,7 +267,7 @@ fn refusal_in(image: &[u8], direction: u8) -> Refusal
     ensures { λ r. ⌜ r ≡ refusalBy (refusalOf (fieldsIn (now (image .entry))) direction) ⌝ }
 {
     let control = control_in(image);
-    let kinds = sixteen(&image[layout::KINDS..layout::COMMAND]);
+    let kinds = kinds_from(&image[layout::KINDS..layout::COMMAND]);
     refusal_on(image[layout::LIVE] == 1, control, kinds, direction)
 }
 

@@ -4,7 +4,10 @@ ghost use Prim.Native.Nat.{min, _+_, _%_, _≤_};
 ghost use lib.Dec.{leb};
 ghost use lib.ListN.{length, replicate};
 ghost use Rattle.rules.specs.Octets.{decimal};
+ghost use Rattle.rules.specs.Setup.{ipv6Width, ipv4Width};
 ghost use Rattle.output.specs.Buffer.{Put, putAt};
+use rules::IPV4;
+use rules::IPV6;
 
 // The most octets that are moved at once.
 const BLOCK: usize = 1024;
@@ -69,22 +72,22 @@ fn copy(out: &mut [u8], at: usize, src: &[u8])
     }
 }
 
-// Sixteen octets as an array; zeros where there are more than sixteen, and behind fewer.
-pub fn sixteen(octets: &[u8]) -> [u8; 16]
-    ensures { λ r. ⌜ r ≡ putAt (replicate 16 0) 0 (now (octets .entry)) ⌝ }
+// The octets of an IPv6 address as an array; zeros where there are more than it has, and behind fewer.
+pub fn ipv6_from(octets: &[u8]) -> [u8; IPV6]
+    ensures { λ r. ⌜ r ≡ putAt (replicate ipv6Width 0) 0 (now (octets .entry)) ⌝ }
 {
-    let mut sixteen = [0u8; 16];
-    put(&mut sixteen, 0, octets);
-    sixteen
+    let mut ipv6 = [0u8; IPV6];
+    put(&mut ipv6, 0, octets);
+    ipv6
 }
 
-// Four octets as an array; zeros where there are more than four, and behind fewer.
-pub fn four(octets: &[u8]) -> [u8; 4]
-    ensures { λ r. ⌜ r ≡ putAt (replicate 4 0) 0 (now (octets .entry)) ⌝ }
+// The same of an IPv4 address.
+pub fn ipv4_from(octets: &[u8]) -> [u8; IPV4]
+    ensures { λ r. ⌜ r ≡ putAt (replicate ipv4Width 0) 0 (now (octets .entry)) ⌝ }
 {
-    let mut four = [0u8; 4];
-    put(&mut four, 0, octets);
-    four
+    let mut ipv4 = [0u8; IPV4];
+    put(&mut ipv4, 0, octets);
+    ipv4
 }
 
 pub fn decimal_length(n: u16) -> usize

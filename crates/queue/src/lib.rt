@@ -2,13 +2,14 @@
 // what is put in and leaves.
 ghost use mathlib.Core.Path.{_≡_};
 ghost use Prim.Native.Nat.{_+_, _≤_};
-ghost use lib.ListN.{length, drop};
+ghost use lib.ListN.{length, drop, replicate};
 ghost use Rattle.rules.specs.Replies.{headAnswers, authAtHead};
-ghost use Rattle.rules.specs.Answers.{mostAnswers};
-ghost use Rattle.output.specs.Buffer.{Put};
+ghost use Rattle.rules.specs.Answers.{mostAnswers, mostOwed};
+ghost use Rattle.output.specs.Buffer.{Put, putAt};
 ghost use Rattle.queue.specs.Kinds.{answerCode, codeOf, stateKind, kindOf, queueOf, headOf, answersAtHead};
 ghost use Rattle.queue.specs.Kinds.{pushed, shiftedIn, isStill};
 ghost use Rattle.queue.specs.Heads.{firstOf, answerFirst, planOf};
+use output::put;
 use own::answer_length;
 use own::put_answer;
 use rules::Kind;
@@ -26,6 +27,15 @@ pub const LAST: u8 = AUTH;
 pub enum Owes {
     Nothing,
     One(Kind),
+}
+
+// The kinds of a record, from their octets; zeros where there are more than it has, and behind fewer.
+pub fn kinds_from(octets: &[u8]) -> Kinds
+    ensures { λ r. ⌜ r ≡ putAt (replicate mostOwed 0) 0 (now (octets .entry)) ⌝ }
+{
+    let mut kinds = [0u8; OWED];
+    put(&mut kinds, 0, octets);
+    kinds
 }
 
 // The number of a kind in the record.

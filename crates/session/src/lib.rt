@@ -16,12 +16,13 @@ ghost use Rattle.steps.specs.Takes.{stateFrom};
 use arrivals::take;
 use gives::passed_length;
 use gives::put_passed;
-use output::four;
+use output::ipv4_from;
+use output::ipv6_from;
 use output::put;
-use output::sixteen;
 use places::Direction;
 use places::Place;
 use places::first_octets;
+use queue::kinds_from;
 use records::Control;
 use records::Counts;
 use records::Refusal;
@@ -106,8 +107,8 @@ pub fn setup_from(octets: &[u8]) -> Prepared
     if octets.len() != SETUP {
         return refused_setup();
     }
-    let client = sixteen(&octets[..IPV6]);
-    let mapped = four(&octets[IPV6..IPV6 + IPV4]);
+    let client = ipv6_from(&octets[..IPV6]);
+    let mapped = ipv4_from(&octets[IPV6..IPV6 + IPV4]);
     setup(Setup {
         client,
         mapped,
@@ -210,7 +211,7 @@ pub fn arrive(
         to_server,
         to_client,
     );
-    let left = sixteen(&lent[LENT_KINDS..LENT_COMMAND]);
+    let left = kinds_from(&lent[LENT_KINDS..LENT_COMMAND]);
     let command = held_line(&lent[LENT_COMMAND..LENT_REPLY]);
     let reply = held_line(&lent[LENT_REPLY..]);
     let then = t.control;

@@ -11,9 +11,10 @@ ghost use Rattle.steps.specs.Takes.{fixedLent, addressesLent, kindsLent,
 ghost use Rattle.steps.specs.Takes.{tookNext};
 ghost use Rattle.steps.specs.Core.{Bounded, Stepped};
 use octet::any_octet;
-use output::four;
+use output::ipv4_from;
+use output::ipv6_from;
 use output::put;
-use output::sixteen;
+use queue::kinds_from;
 use records::Control;
 use records::holdable;
 use records::layout::LENT_COMMAND;
@@ -53,8 +54,8 @@ fn fixed_in(supported: bool, lent: &[u8]) -> Fixed
     requires { ⌜ length (now lent) ≡ lentSize ⌝ }
     ensures { λ r. ⌜ r ≡ fixedLent supported (now (lent .entry)) ⌝ }
 {
-    let client = sixteen(&lent[..LENT_MAPPED]);
-    let mapped = four(&lent[LENT_MAPPED..LENT_KINDS]);
+    let client = ipv6_from(&lent[..LENT_MAPPED]);
+    let mapped = ipv4_from(&lent[LENT_MAPPED..LENT_KINDS]);
     Fixed {
         client,
         mapped,
@@ -66,7 +67,7 @@ fn kinds_in(lent: &[u8]) -> Kinds
     requires { ⌜ length (now lent) ≡ lentSize ⌝ }
     ensures { λ r. ⌜ r ≡ kindsLent (now (lent .entry)) ⌝ }
 {
-    sixteen(&lent[LENT_KINDS..LENT_COMMAND])
+    kinds_from(&lent[LENT_KINDS..LENT_COMMAND])
 }
 
 fn put_kinds(lent: &mut [u8], kinds: Kinds)

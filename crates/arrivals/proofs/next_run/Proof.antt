@@ -29,7 +29,7 @@ returns c = c .before .before .before .before .before .before .before .plain-lin
 returns-2 : tie.Need-returns-2
 returns-2 c = c .before .before .before .before .before .before .before .before .before .plain-lines .ensures
 
-part-end : tie.Need-part-sixteen-end
+part-end : tie.Need-part-kinds-from-end
 part-end c =
     let all = c .before .before .before .before .before .before .before .before .before .before .before .before .plain-lines .kept .1 .1 .1 .1 .0 ∙ c .before .before .before .before .before .before .before .before .before .before .before .before .before .before .before .before .before .before .before .before .pre .1 .1 in
     omega arith
@@ -53,7 +53,7 @@ returns-3 c =
     let a = start .args in
     let side = sideIf (a .from-client) in
     let p = c .before .before .before .before .before .before .before .before .before .before .before .before .before .before .before .before .before .before .before .before .before .before .before .before .plain-lines in
-    let kinds = c .before .before .before .before .before .before .before .before .before .before .sixteen in
+    let kinds = c .before .before .before .before .before .before .before .before .before .before .kinds-from in
     let r = c .before .before .before .before .before .before .any-run in
     let lent = p .last .1 .1 .1 .1 .0 in
     let all = p .kept .1 .1 .1 .1 .0 ∙ start .pre .1 .1 in

@@ -15,9 +15,9 @@ returns c =
     let image = start .args .image .now in
     let size = start .pre in
     fields-read image
-    (copied image clientAt ipv6Width (omega arith) (c .before .before .before .before .before .before .before .before .before .before .before .sixteen .ensures))
-    (copied image mappedAt ipv4Width (omega arith) (c .before .before .before .before .before .before .before .before .before .four .ensures))
-    (copied image kindsAt mostOwed (omega arith) (c .before .before .before .before .before .before .before .sixteen2 .ensures))
+    (copied image clientAt ipv6Width (omega arith) (c .before .before .before .before .before .before .before .before .before .before .before .ipv6-from .ensures))
+    (copied image mappedAt ipv4Width (omega arith) (c .before .before .before .before .before .before .before .before .before .ipv4-from .ensures))
+    (copied image kindsAt mostOwed (omega arith) (c .before .before .before .before .before .before .before .kinds-from .ensures))
     (copied image commandAt mostHeld (omega arith) (c .before .before .before .before .before .held-line .ensures))
     (copied image replyAt mostHeld (omega arith) (c .before .before .before .held-line2 .ensures))
     (c .before .before .control-in .ensures)

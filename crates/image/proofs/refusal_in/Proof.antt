@@ -13,7 +13,7 @@ returns c =
     let image = start .args .image .now in
     let size = start .pre in
     refused-by-parts image (start .args .direction) (c .before .before .before .before .control-in .ensures)
-    (copied image kindsAt mostOwed (omega arith) (c .before .before .sixteen .ensures))
+    (copied image kindsAt mostOwed (omega arith) (c .before .before .kinds-from .ensures))
     (c .refusal-on .ensures)
 
 pub refusal-in-spec : {M : Type 1} → statement M

@@ -13,8 +13,8 @@ returns c =
     let a = c .before .before .before .args in
     c .refused-setup .ensures ∙ wrong-size (a .octets .now) (c .before .if1 .taken)
 
-slice-aggregate-sixteen : tie.Need-slice-aggregate-sixteen
-slice-aggregate-sixteen c =
+slice-aggregate-ipv6-from : tie.Need-slice-aggregate-ipv6-from
+slice-aggregate-ipv6-from c =
     let a = c .before .before .before .args in
     sym (length-take-le ipv6Width (a .octets .now) (omega arith))
 
@@ -22,7 +22,7 @@ returns-2 : tie.Need-returns-2
 returns-2 c =
     let a = c .before .before .before .before .before .before .before .before .args in
     let size = c .before .before .before .before .before .before .if1 .left in
-    set-up (a .octets .now) size (c .before .before .before .before .sixteen .ensures) (c .before .before .four .ensures) (c .setup .ensures)
+    set-up (a .octets .now) size (c .before .before .before .before .ipv6-from .ensures) (c .before .before .ipv4-from .ensures) (c .setup .ensures)
 
 pub setup-from-spec : {M : Type 1} → statement M
 setup-from-spec =
@@ -30,7 +30,7 @@ setup-from-spec =
     (tie.spec
     (λ c κs. search needs)
     returns
-    slice-aggregate-sixteen
+    slice-aggregate-ipv6-from
     (λ c κs. search needs)
     (λ c. search needs)
     (λ c. search needs)

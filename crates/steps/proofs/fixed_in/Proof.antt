@@ -10,8 +10,8 @@ use Rattle.records.specs.Layout.{lentMapped}
 use Rattle.steps.proofs.fixed_in.Statement.{statement}
 use Rattle.steps.proofs.fixed_in.Tie as tie
 
-slice-aggregate-sixteen : tie.Need-slice-aggregate-sixteen
-slice-aggregate-sixteen c =
+slice-aggregate-ipv6-from : tie.Need-slice-aggregate-ipv6-from
+slice-aggregate-ipv6-from c =
     let start = c .before .before in
     sym (length-take-le ipv6Width (start .args .lent .now) (omega (arith, start .pre)))
 
@@ -20,15 +20,15 @@ returns c =
     let start = c .before .before .before .before .before in
     let lent = start .args .lent .now in
     let all = start .pre in
-    let client = c .before .before .sixteen .ensures ∙ filled ipv6Width (take ipv6Width lent) (length-take-le ipv6Width lent (omega arith)) in
-    let mapped = c .four .ensures ∙ filled ipv4Width (take ipv4Width (drop lentMapped lent)) (length-take-le ipv4Width (drop lentMapped lent) (omega (arith, length-drop lentMapped lent))) in
+    let client = c .before .before .ipv6-from .ensures ∙ filled ipv6Width (take ipv6Width lent) (length-take-le ipv6Width lent (omega arith)) in
+    let mapped = c .ipv4-from .ensures ∙ filled ipv4Width (take ipv4Width (drop lentMapped lent)) (length-take-le ipv4Width (drop lentMapped lent) (omega (arith, length-drop lentMapped lent))) in
     cc
 
 pub fixed-in-spec : {M : Type 1} → statement M
 fixed-in-spec =
     tie.close
     (tie.spec
-    slice-aggregate-sixteen
+    slice-aggregate-ipv6-from
     (λ c κs. search needs)
     (λ c. search needs)
     (λ c. search needs)

@@ -10,7 +10,7 @@ use Rattle.steps.proofs.kinds_in.Tie as tie
 returns : tie.Need-returns
 returns c =
     let start = c .before .before .before in
-    c .sixteen .ensures ∙ filled mostOwed _ (kinds-size (start .args .lent .now) (start .pre))
+    c .kinds-from .ensures ∙ filled mostOwed _ (kinds-size (start .args .lent .now) (start .pre))
 
 pub kinds-in-spec : {M : Type 1} → statement M
 kinds-in-spec =
