@@ -205,7 +205,7 @@ module _ (f : Fixed) (l : List ℕ) (s : State) (sb cb : List ℕ) (w : Written)
 -- the same over what is lent, into which the code stores the kind
 module _ (l : List ℕ) {j : ℕ} (n owed : ℕ) (lent : List ℕ) (all : length lent ≡ lentSize) (out : List ℕ) (at : ℕ) {next : ℕ} {out′ line : List ℕ} where
   pub line-ended : j < length l → getD l j 0 ≡ lf → n ≤ mostHeld → owed < mostOwed → isStill (kindsLent lent) 0 owed ≡ true → at ≤ length out
-      → n < length out - at → line ≡ take (lentCommand + n - lentCommand) (drop lentCommand lent) → isPlain line ≡ true
+      → length line < length out - at → line ≡ take (lentCommand + n - lentCommand) (drop lentCommand lent) → isPlain line ≡ true
       → next ≡ positionAfter out at (line ++ (lf ∷ [])) → out′ ≡ putAt out at (line ++ (lf ∷ []))
       → SaidPlain l j n owed lent out at (record { more = true; taken = j + 1; held = 0; owed = owed + 1; at = next })
       (set lent (lentKinds + owed) 0) out′
@@ -217,9 +217,6 @@ module _ (l : List ℕ) {j : ℕ} (n owed : ℕ) (lent : List ℕ) (all : length
       let count : lentCommand + n - lentCommand ≡ n = omega arith in
       let same : line ≡ take n (commandIn (linesLent lent)) =
       el ∙ (ap (λ (k : ℕ). take k (drop lentCommand lent)) count ∙ sym (take-take n mostHeld (drop lentCommand lent) most)) in
-      let short : length line ≡ n =
-      ap (λ (x : List ℕ). length x) (el ∙ ap (λ (k : ℕ). take k (drop lentCommand lent)) count)
-      ∙ length-take-le n (drop lentCommand lent) (omega (arith, all, length-drop lentCommand lent)) in
       let fits : at + length (line ++ (lf ∷ [])) ≤ length out = omega (arith, length-append line (lf ∷ [])) in
       let end = en ∙ after-fits out at (line ++ (lf ∷ [])) fits in
       let whole = ap (λ (x : List ℕ). length x) eo ∙ length-put out at (line ++ (lf ∷ [])) fits in

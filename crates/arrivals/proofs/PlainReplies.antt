@@ -339,9 +339,9 @@ module _ (l : List ℕ) (i j h : ℕ) (lent p : List ℕ) (all : length lent ≡
 
 -- the LF of a plain line; the code reads the line once to judge it, and once to write it
 module _ (l : List ℕ) (j n m : ℕ) (u : Bool) (lent p out out′ : List ℕ) (w next k : ℕ) (v : Bool) (all : length lent ≡ lentSize)
-    (held : n ≤ mostHeld) (owed : m ≤ mostOwed) (still : isStill (kindsLent lent) 0 m ≡ true) (inside : j < length l) (end : getD l j 0 ≡ lf) (room : n < length out - w)
+    (held : n ≤ mostHeld) (owed : m ≤ mostOwed) (still : isStill (kindsLent lent) 0 m ≡ true) (inside : j < length l) (end : getD l j 0 ≡ lf)
     (seen line : List ℕ) (es : seen ≡ take (lentReply + n - lentReply) (drop lentReply lent)) (el : line ≡ take (lentReply + n - lentReply) (drop lentReply lent))
-    (r : ReplyLine) (read : r ≡ replyLine (content seen)) (ek : k ≡ plainRemoves r m) (ev : v ≡ leavesUnfinished r)
+    (room : length seen < length out - w) (r : ReplyLine) (read : r ≡ replyLine (content seen)) (ek : k ≡ plainRemoves r m) (ev : v ≡ leavesUnfinished r)
     (keeps : keepsStill (kindsLent lent) u k m ≡ true)
     (en : next ≡ positionAfter out w (line ++ (lf ∷ []))) (eo : out′ ≡ putAt out w (line ++ (lf ∷ []))) (put : p ≡ shifted (kindsLent lent) k m) where
   kinds-hold : m ≤ length (kindsLent lent)
@@ -356,10 +356,8 @@ module _ (l : List ℕ) (j n m : ℕ) (u : Bool) (lent p out out′ : List ℕ) 
       let cut : lentReply + n - lentReply ≡ n = omega arith in
       e ∙ (λ i. take (cut i) (sym (drop-drop mostHeld lentCommand lent) i))
 
-  line-long : length line ≡ n
-  line-long =
-      let cut : lentReply + n - lentReply ≡ n = omega arith in
-      ap length el ∙ (length-take-le (lentReply + n - lentReply) (drop lentReply lent) (omega (arith, all, length-drop lentReply lent)) ∙ cut)
+  line-long : length line ≡ length seen
+  line-long = ap length (el ∙ sym es)
 
   pub reply-ended : AnsweredPlain l j n m u lent out w (record { more = true; taken = j + 1; held = 0; owed = m - k; unfinished = v; at = next }) (putMid lentKinds mostOwed lent p) out′
   reply-ended =

@@ -20,6 +20,7 @@ ghost use Rattle.queue.specs.Kinds.{isStill};
 ghost use Rattle.arrivals.specs.PlainRuns.{isPlainFirst, plainRemoves, keepsStill, SaidPlain, AnsweredPlain};
 use crate::running::RunPart;
 use crate::running::hold_run;
+use gives::passed_length;
 use gives::put_line;
 use places::Direction;
 use places::LF;
@@ -70,7 +71,7 @@ fn text<'a>(held: usize, part: &'a [u8], line: &'a [u8]) -> &'a [u8]
     line
 }
 
-// An LF stands at j, and there is room for it and the n octets before it.
+// An LF stands at j, and there is room for it and the n octets that the line before it gives.
 fn may_end(octets: &[u8], j: usize, n: usize, room: usize) -> bool
     ensures { λ r.
         let l = now (octets .entry) in
@@ -105,7 +106,7 @@ fn client_line(
     let j = hold_run(octets, i, &mut lent[LENT_COMMAND..LENT_REPLY], held);
     let n = held + (j - i);
     let line = text(held, &octets[i..j], &lent[LENT_COMMAND..LENT_COMMAND + n]);
-    if may_end(octets, j, n, to_server.len() - at) {
+    if may_end(octets, j, passed_length(line), to_server.len() - at) {
         if commands::is_plain(line) {
             let next = put_line(to_server, at, line, LF);
             lent[LENT_KINDS + owed] = 0;
@@ -232,8 +233,8 @@ fn server_line(
 {
     let j = hold_run(octets, i, &mut lent[LENT_REPLY..LENT_SIZE], held);
     let n = held + (j - i);
-    if may_end(octets, j, n, to_client.len() - at) {
-        let read = text(held, &octets[i..j], &lent[LENT_REPLY..LENT_REPLY + n]);
+    let read = text(held, &octets[i..j], &lent[LENT_REPLY..LENT_REPLY + n]);
+    if may_end(octets, j, passed_length(read), to_client.len() - at) {
         let reply = replies::reply_line(lines::content(read));
         let removes = removed(reply, owed);
         if keeps_still(&lent[LENT_KINDS..LENT_COMMAND], unfinished, removes, owed) {

@@ -36,7 +36,7 @@ text-requires c κs =
 
 returns : tie.Need-returns
 returns c =
-    let h = c .before .before .before .before .before .before .before .before .before .before .before .before .before .before in
+    let h = c .before .before .before .before .before .before .before .before .before .before .before .before .before .before .before in
     let a = h .before .before .before .before .before .args in
     let pre = h .before .before .before .before .before .pre in
     let r = h .hold-run .ensures in
@@ -45,18 +45,18 @@ returns c =
     let all = lent-size (a .octets .now) (a .held) (a .lent .now) (pre .1 .1) forward (r .0 .1) (r .0 .2) (r .1 .1) in
     let may = c .before .before .before .before .before .before .before .may-end .ensures (c .before .before .before .before .before .before .if1 .taken) in
     let plain = sym (c .before .before .before .before .before .is-plain .ensures) ∙ c .before .before .before .before .if2 .taken in
-    let text = c .before .before .before .before .before .before .before .before .text .ensures in
+    let text = c .before .before .before .before .before .before .before .before .before .text .ensures in
     let put = c .before .before .put-line .ensures in
     let ended = line-ended (a .octets .now) (a .held + (h .hold-run .result - a .i)) (a .owed) (putMid lentCommand mostHeld (a .lent .now) (h .hold-run .last .1 .1 .0)) all
-    (a .to-server .now) (a .at) (may .0) (may .1) (held .held) (pre .0 .1) (held .still) (pre .1 .2) (may .2) text plain (put .0)
+    (a .to-server .now) (a .at) (may .0) (may .1) (held .held) (pre .0 .1) (held .still) (pre .1 .2) (omega (arith, may .2, c .before .before .before .before .before .before .before .before .passed-length .ensures)) text plain (put .0)
     (put .1) in
     (said-then held ended, λ _. omega arith)
 
 returns-2 : tie.Need-returns-2
-returns-2 c = (held-here (c .before .before .before .before .before .before .before .before .before .before), λ e. absurd (false≢true e))
+returns-2 c = (held-here (c .before .before .before .before .before .before .before .before .before .before .before), λ e. absurd (false≢true e))
 
 returns-3 : tie.Need-returns-3
-returns-3 c = (held-here (c .before .before .before .before .before .before .before .before), λ e. absurd (false≢true e))
+returns-3 c = (held-here (c .before .before .before .before .before .before .before .before .before), λ e. absurd (false≢true e))
 
 pub client-line-spec : {M : Type 1} → statement M
 client-line-spec =
@@ -76,6 +76,7 @@ client-line-spec =
     (λ c. search needs)
     (λ c. search needs)
     text-requires
+    (λ c κs. search needs)
     (λ c. search needs)
     (λ c κs. search needs)
     (λ c κs. search needs)

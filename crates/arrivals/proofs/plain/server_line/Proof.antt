@@ -73,30 +73,35 @@ module _ (c : tie.After-hold-run) where
       held-size octets i j held lent part (c .before .before .before .before .before .pre .1 .1) (run .0 .0) (run .0 .1) (run .0 .2) (run .1 .1)
 
 -- no more kinds are removed than are owed
-few : (c : tie.After-removed) → c .removed .result ≤ owed (c .before .before .before .before .before .before .before .before .before .before .before)
-few c = omega (arith, c .removed .ensures, removes-within (c .before .reply-line .result) (owed (c .before .before .before .before .before .before .before .before .before .before .before)))
+few : (c : tie.After-removed) → c .removed .result ≤ owed (c .before .before .before .before .before .before .before .before .before .before .before .before)
+few c = omega (arith, c .removed .ensures, removes-within (c .before .reply-line .result) (owed (c .before .before .before .before .before .before .before .before .before .before .before .before)))
 
 text-requires : tie.Need-text-requires
-text-requires c κs = read (c .before .before .before .before .before .before .before)
+text-requires c κs = read (c .before .before .before .before .before)
+
+part-text-end-4 : tie.Need-part-text-end-4
+part-text-end-4 c =
+    let run = c .before .before .before .before .before .before .before .before .before .before .before .before .before .before .before .before .before .before in
+    omega (arith, all run, first run .held)
 
 text-requires-2 : tie.Need-text-requires-2
-text-requires-2 c κs = read (c .before .before .before .before .before .before .before .before .before .before .before .before .before .before .before .before .before .before)
+text-requires-2 c κs = read (c .before .before .before .before .before .before .before .before .before .before .before .before .before .before .before .before .before .before .before)
 
 part-shift-end : tie.Need-part-shift-end
-part-shift-end c = omega (arith, all (c .before .before .before .before .before .before .before .before .before .before .before .before .before .before .before .before .before .before .before .before .before .before .before))
+part-shift-end c = omega (arith, all (c .before .before .before .before .before .before .before .before .before .before .before .before .before .before .before .before .before .before .before .before .before .before .before .before))
 
-add-t42 : tie.Need-add-t42
-add-t42 c =
-    let size = c .before .before .before .before .before .before .before .before .before .before .before .before .before .before .before .before .before .before .before .before .before .before .before .before .before .before .before .before .before .before .before .before .good .1 .1 .1 .0 in
-    let more = c .before .before .before .before .before .before .before .before .before .before .before .before .before .before .before .before .before .before .before .before .before .before .before .before .may-end .ensures (c .before .before .before .before .before .before .before .before .before .before .before .before .before .before .before .before .before .before .before .before .before .before .before .if1 .taken) .0 in
+add-t41 : tie.Need-add-t41
+add-t41 c =
+    let size = c .before .before .before .before .before .before .before .before .before .before .before .before .before .before .before .before .before .before .before .before .before .before .before .before .before .before .before .before .before .before .before .before .before .good .1 .1 .1 .0 in
+    let more = c .before .before .before .before .before .before .before .before .before .before .before .before .before .before .before .before .before .before .before .before .may-end .ensures (c .before .before .before .before .before .before .before .before .before .before .before .before .before .before .before .before .before .before .before .if1 .taken) .0 in
     record { fits = omega (arith, more, size) }
 
-sub-t37 : tie.Need-sub-t37
-sub-t37 c = few (c .before .before .before .before .before .before .before .before .before .before .before .before .before .before .before .before)
+sub-t36 : tie.Need-sub-t36
+sub-t36 c = few (c .before .before .before .before .before .before .before .before .before .before .before .before .before .before .before .before)
 
 same-length : tie.Need-same-length
 same-length c =
-    let run = c .before .before .before .before .before .before .before .before .before .before .before .before .before .before .before .before .before .before .before .before .before .before .before .before .before .before .before .before in
+    let run = c .before .before .before .before .before .before .before .before .before .before .before .before .before .before .before .before .before .before .before .before .before .before .before .before .before .before .before .before .before in
     let size = kinds-size (after run) (all run) in
     let moved = c .before .before .before .shift .ensures ∙ shifted-in (kindsLent (after run)) _ _ (omega (arith, size, first run .owed)) in
     put-size lentKinds mostOwed (after run) (c .before .before .before .shift .last .0) (omega (arith, all run))
@@ -105,9 +110,9 @@ same-length c =
 
 returns : tie.Need-returns
 returns c =
-    let run = c .before .before .before .before .before .before .before .before .before .before .before .before .before .before .before .before .before .before .before .before .before .before .before .before .before .before .before .before in
+    let run = c .before .before .before .before .before .before .before .before .before .before .before .before .before .before .before .before .before .before .before .before .before .before .before .before .before .before .before .before .before in
     let a = run .before .before .before .before .before .args in
-    let ends = c .before .before .before .before .before .before .before .before .before .before .before .before .before .before .before .before .before .before .before .before .before .before .before .before .before .may-end .ensures (c .before .before .before .before .before .before .before .before .before .before .before .before .before .before .before .before .before .before .before .before .before .before .before .before .if1 .taken) in
+    let ends = c .before .before .before .before .before .before .before .before .before .before .before .before .before .before .before .before .before .before .before .before .before .may-end .ensures (c .before .before .before .before .before .before .before .before .before .before .before .before .before .before .before .before .before .before .before .before .if1 .taken) in
     let reply = c .before .before .before .before .before .before .before .before .before .before .before .before .before .before .before .before .before .before .reply-line in
     let keeps = sym (c .before .before .before .before .before .before .before .before .before .before .before .before .before .before .keeps-still .ensures) ∙ c .before .before .before .before .before .before .before .before .before .before .before .before .before .if2 .taken in
     let put = c .before .before .before .before .before .before .before .put-line in
@@ -116,17 +121,18 @@ returns c =
     let over = run .hold-run .ensures .0 .0 in (
       answered-then (octets run) (i run) (held run) (owed run) (a .unfinished) (lent run) (a .to-client .now) (a .at) _ _ (after run) (a .to-client .now) _ _ (first run)
           (reply-ended (octets run) (j run) (held run + (j run - i run)) (owed run) (a .unfinished) (after run) _ (a .to-client .now) _ (a .at) _ _ _ (all run)
-          (first run .held) (first run .owed) (first run .still) (ends .0) (ends .1) (ends .2) _ _ (c .before .before .before .before .before .before .before .before .before .before .before .before .before .before .before .before .before .before .before .before .text .ensures) (c .before .before .before .before .before .before .before .before .before .text2 .ensures)
+          (first run .held) (first run .owed) (first run .still) (ends .0) (ends .1) _ _ (c .before .before .before .before .before .before .before .before .before .before .before .before .before .before .before .before .before .before .before .before .before .before .before .text .ensures) (c .before .before .before .before .before .before .before .before .before .text2 .ensures)
+          (omega (arith, ends .2, c .before .before .before .before .before .before .before .before .before .before .before .before .before .before .before .before .before .before .before .before .before .before .passed-length .ensures))
           (reply .result) (reply .ensures ∙ ap replyLine (c .before .before .before .before .before .before .before .before .before .before .before .before .before .before .before .before .before .before .before .content .ensures)) (c .before .before .before .before .before .before .before .before .before .before .before .before .before .before .before .before .before .removed .ensures) (c .goes-on .ensures) keeps
           (put .ensures .0) (put .ensures .1) moved),
       λ _. omega arith,
     )
 
 returns-2 : tie.Need-returns-2
-returns-2 c = (first (c .before .before .before .before .before .before .before .before .before .before .before .before .before .before .before), λ e. absurd (false≢true e))
+returns-2 c = (first (c .before .before .before .before .before .before .before .before .before .before .before .before .before .before .before .before), λ e. absurd (false≢true e))
 
 returns-3 : tie.Need-returns-3
-returns-3 c = (first (c .before .before .before .before), λ e. absurd (false≢true e))
+returns-3 c = (first (c .before .before .before .before .before .before .before .before .before), λ e. absurd (false≢true e))
 
 pub server-line-spec : {M : Type 1} → statement M
 server-line-spec =
@@ -139,8 +145,6 @@ server-line-spec =
     (λ c. search needs)
     (λ c. search needs)
     (λ c. search needs)
-    (λ c κs. search needs)
-    (λ c. search needs)
     (λ c. search needs)
     (λ c. search needs)
     (λ c. search needs)
@@ -149,27 +153,30 @@ server-line-spec =
     (λ c. search needs)
     text-requires
     (λ c κs. search needs)
-    (λ c κs. search needs)
-    (λ c κs. search needs)
-    (λ c. search needs)
-    (λ c. search needs)
     (λ c. search needs)
     (λ c κs. search needs)
+    (λ c κs. search needs)
+    (λ c κs. search needs)
+    (λ c κs. search needs)
+    (λ c. search needs)
+    (λ c. search needs)
+    (λ c. search needs)
+    (λ c κs. search needs)
     (λ c. search needs)
     (λ c. search needs)
     (λ c. search needs)
     (λ c. search needs)
     (λ c. search needs)
     (λ c. search needs)
-    (λ c. search needs)
+    part-text-end-4
     text-requires-2
     (λ c κs. search needs)
     (λ c. search needs)
     (λ c. search needs)
     part-shift-end
     (λ c κs. search needs)
-    add-t42
-    sub-t37
+    add-t41
+    sub-t36
     (λ c κs. search needs)
     same-length
     (λ c. search needs)
