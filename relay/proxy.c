@@ -384,7 +384,8 @@ static void advance(struct session *s) {
 }
 
 /* Whether the session is over. A peer that was told the end and whose octets are thrown away may
- * take a while to close, but not for ever. */
+ * take a while to close, but not for ever; what a server that has ended, but still reads, has not
+ * got by then is lost. */
 static bool is_over(struct session *s) {
     const struct peer *client = &s->peers[FASHLEMOR_CLIENT];
     const struct peer *server = &s->peers[FASHLEMOR_SERVER];

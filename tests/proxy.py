@@ -9,6 +9,7 @@ import contextlib
 import ftplib
 import pathlib
 import random
+import resource
 import select
 import signal
 import socket
@@ -31,6 +32,12 @@ BUILDS = {
 PLACES = 8
 # how long anything may take before it counts as lost, in seconds
 PATIENCE = 10
+# how long the proxy is watched when it has nothing to do, in seconds; how often, since under load it may still be at work;
+# and what it may use of the processor meanwhile, in ticks of 10 ms: one that never waits uses fifty, or half of that on a
+# busy machine, and one that waits uses one or none
+QUIET = 0.5
+LOOKS = 4
+TICKS = 5
 # of the peers' sockets: small, so that one that does not read is soon full
 BUFFER = 32768
 MAPPED = "127.0.0.2"
@@ -172,15 +179,73 @@ class Proxy:
             time.sleep(0.02)
         return self.files() <= self.files_at_first
 
+    def gets_empty(self):
+        """Waits until no session of an earlier case is left."""
+        if not self.has_closed_all():
+            raise Fault("sessions are left")
+
+    def processor_time(self):
+        """What the proxy has used of the processor, in ticks, where the system tells it."""
+        path = pathlib.Path(f"/proc/{self.process.pid}/stat")
+        if not path.exists():
+            return 0
+        # from the state on: the name before it may have spaces
+        fields = path.read_text().rpartition(")")[2].split()
+        return int(fields[11]) + int(fields[12])
+
+    def used_meanwhile(self):
+        before = self.processor_time()
+        time.sleep(QUIET)
+        return self.processor_time() - before
+
+    def rests(self):
+        """While nothing arrives the proxy waits, and does not ask again and again."""
+        used = []
+        while not used or used[-1] > TICKS:
+            if len(used) == LOOKS:
+                raise Fault(f"the proxy does not rest: it used {used} ticks of the processor, each in {QUIET} s")
+            used.append(self.used_meanwhile())
+
+    @contextlib.contextmanager
+    def no_more_files(self):
+        """Meanwhile the proxy can't open a file."""
+        limits = resource.prlimit(self.process.pid, resource.RLIMIT_NOFILE)
+        resource.prlimit(self.process.pid, resource.RLIMIT_NOFILE, (self.files(), limits[1]))
+        try:
+            yield
+        finally:
+            resource.prlimit(self.process.pid, resource.RLIMIT_NOFILE, limits)
+
     def said(self):
         return self.errors.read_text()
+
+    def says(self, words):
+        """Waits until the proxy has said it."""
+        until = time.monotonic() + PATIENCE
+        while words not in self.said():
+            if time.monotonic() > until:
+                raise Fault(f"the proxy does not say {words!r}: {self.said()[-400:]}")
+            time.sleep(0.02)
 
     @contextlib.contextmanager
     def paused(self):
         """What is said meanwhile the proxy finds all at once."""
         self.process.send_signal(signal.SIGSTOP)
-        yield
-        self.process.send_signal(signal.SIGCONT)
+        try:
+            yield
+        finally:
+            self.process.send_signal(signal.SIGCONT)
+
+    @contextlib.contextmanager
+    def unanswered(self):
+        """Meanwhile the server's queue is full: its system answers no connection, and each asks again after a second."""
+        self.server.listen(0)
+        with socket.create_connection(self.server.getsockname()):
+            try:
+                yield
+            finally:
+                self.server.listen()
+                self.server.accept()[0].close()
 
     def settle(self):
         """Closes what a case has left open."""
@@ -436,17 +501,65 @@ def several_clients(proxy):
         part(client, server)
 
 
+def served_late(proxy, client):
+    """The server's end for a client that has waited."""
+    server = proxy.served()
+    server.says(GREETING)
+    client.hears(GREETING)
+    return server
+
+
 def one_more_client(proxy):
     """A client for whom there is no place waits until another has gone; nothing is lost on it."""
     pairs = [proxy.pair() for _ in range(PLACES)]
     late = proxy.client()
     late.says(b"NOOP\r\n")
     part(*pairs[0])
-    server = proxy.served()
-    server.says(GREETING)
-    late.hears(GREETING)
-    server.hears(b"NOOP\r\n")
+    served_late(proxy, late).hears(b"NOOP\r\n")
     passive_exchange(*pairs[1])
+
+
+def rests_between_octets(proxy):
+    """Sessions half-closed, a client whose commands wait for replies, and one more client than the least table takes."""
+    pairs = [proxy.pair() for _ in range(PLACES)]
+    pairs[0][0].ends()
+    pairs[0][1].hears_end()
+    pairs[1][1].ends()
+    pairs[1][0].hears_end()
+    pairs[2][0].says(b"".join(map(number, range(1000))))
+    pairs[2][1].hears(b"".join(map(number, range(16))))
+    late = proxy.client()
+    try:
+        proxy.rests()
+    finally:
+        # else the late client would be served in the next case
+        part(*pairs[3])
+        passive_exchange(late, served_late(proxy, late))
+
+
+def rests_after_a_reset(proxy):
+    """The server resets, and what it said waits for a client that does not read. Usual sizes only."""
+    client, server = proxy.pair()
+    line = b"200-" + bytes(range(97, 123)) * 300 + b"\r\n"
+    fills(server, line)
+    server.resets()
+    proxy.rests()
+    client.hears(line)
+
+
+def no_file_for_a_client(proxy):
+    """There is a place for one more client, but no file: the proxy says so and waits, and the client is served later.
+
+    It is the last place, since poll(2) refuses to ask about more sockets than there may be files.
+    """
+    proxy.gets_empty()
+    pairs = [proxy.pair() for _ in range(PLACES - 1)]
+    with proxy.no_more_files():
+        late = proxy.client()
+        proxy.says("accept: Too many open files")
+        proxy.rests()
+        passive_exchange(*pairs[0])
+    passive_exchange(late, served_late(proxy, late))
 
 
 def fills(peer, octets):
@@ -512,6 +625,48 @@ def server_resets(proxy):
     server.resets()
     client.hears_end()
     passive_exchange(other_client, other_server)
+    part(other_client, other_server)
+
+
+def says_busy(server):
+    server.says(b"421 busy\r\n")
+    server.resets()
+
+
+def hears_busy(client):
+    client.hears(b"421 busy\r\n")
+    client.hears_end()
+    client.ends()
+
+
+def server_is_busy(proxy):
+    """It says so and resets at once: each client hears it, whether it speaks first or not."""
+    for first in [b"", b"NOOP\r\n"] * 30:
+        client = proxy.client()
+        client.says(first)
+        says_busy(proxy.served())
+        hears_busy(client)
+
+
+def server_is_busy_early(proxy):
+    """The same, but all that the proxy sees of the server is what is left after the reset.
+
+    It takes a client each turn, and an exchange takes two turns: so after as many exchanges it is connecting for all.
+    """
+    proxy.gets_empty()
+    other_client, other_server = proxy.pair()
+    with contextlib.ExitStack() as later:
+        with proxy.unanswered():
+            clients = [proxy.client() for _ in range(PLACES - 1)]
+            for client in clients[::2]:
+                client.says(b"NOOP\r\n")
+            for _ in clients:
+                passive_exchange(other_client, other_server)
+            later.enter_context(proxy.paused())
+        for _ in clients:
+            says_busy(proxy.served())
+    for client in clients:
+        hears_busy(client)
     part(other_client, other_server)
 
 
@@ -647,10 +802,11 @@ CASES = [
     exchange, single_octets, own_answers, pipelined, pipelined_mixed, pipelined_then_end, before_the_greeting, long_lines,
     client_ends_first, server_ends_first, both_end_at_once, server_ends_with_all_owed, both_end_with_all_owed, transparent,
     several_clients, many_commands, does_not_read, server_does_not_read, client_resets, server_resets,
-    server_goes_while_the_client_speaks, urgent, source_address, ftplib_client,
+    server_is_busy, server_is_busy_early, server_goes_while_the_client_speaks, rests_between_octets, urgent, source_address,
+    ftplib_client,
 ]  # fmt: skip
 # those that hold with the sizes of one build only
-SIZED = {"usual": [end_without_room], "least": [one_more_client]}
+SIZED = {"usual": [end_without_room, rests_after_a_reset], "least": [one_more_client, no_file_for_a_client]}
 TRANSLATED = ["--mapped", MAPPED, "--bind-mapped", "--eprt"]
 
 
