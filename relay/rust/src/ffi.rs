@@ -3,13 +3,14 @@
 //! What the library asks for, Rust's slices give: memory of that length, and no overlap between
 //! what is lent to be written and anything else.
 
+use crate::raw::{Called, DONE};
+
 /// `struct fashlemor_counts`.
 #[repr(C)]
-#[derive(Clone, Copy)]
-pub struct Counts {
-    pub taken: usize,
-    pub to_server: usize,
-    pub to_client: usize,
+struct Counts {
+    taken: usize,
+    to_server: usize,
+    to_client: usize,
 }
 
 /// The library sets all three counts with every answer; one that it did not set would be noticed.
@@ -59,6 +60,7 @@ extern "C" {
     ) -> u8;
 }
 
+/// Writes the record of a fresh session. Answers 0 or 5.
 pub fn setup(record: &mut [u8], setup: &[u8]) -> u8 {
     unsafe {
         fashlemor_setup(
@@ -70,13 +72,14 @@ pub fn setup(record: &mut [u8], setup: &[u8]) -> u8 {
     }
 }
 
+/// Octets of a direction arrive at the session of a record.
 pub fn arrive(
     record: &mut [u8],
     direction: u64,
     octets: &[u8],
     to_server: &mut [u8],
     to_client: &mut [u8],
-) -> (u8, Counts) {
+) -> Called {
     let mut counts = NOT_SET;
     let answer = unsafe {
         fashlemor_arrive(
@@ -92,15 +95,16 @@ pub fn arrive(
             &mut counts,
         )
     };
-    (answer, counts)
+    called(answer, counts)
 }
 
+/// A direction of a record's session ends.
 pub fn end(
     record: &mut [u8],
     direction: u64,
     to_server: &mut [u8],
     to_client: &mut [u8],
-) -> (u8, Counts) {
+) -> Called {
     let mut counts = NOT_SET;
     let answer = unsafe {
         fashlemor_end(
@@ -114,11 +118,21 @@ pub fn end(
             &mut counts,
         )
     };
-    (answer, counts)
+    called(answer, counts)
 }
 
-pub fn offset(record: &[u8], direction: u64) -> (u8, u32) {
+/// The offset of a direction, or none for a direction that there is not.
+pub fn offset(record: &[u8], direction: u64) -> Option<u32> {
     let mut offset = 0;
     let answer = unsafe { fashlemor_offset(record.as_ptr(), record.len(), direction, &mut offset) };
-    (answer, offset)
+    (answer == DONE).then_some(offset)
+}
+
+fn called(answer: u8, counts: Counts) -> Called {
+    Called {
+        answer,
+        taken: counts.taken,
+        to_server: counts.to_server,
+        to_client: counts.to_client,
+    }
 }
