@@ -3,31 +3,31 @@ use mathlib.Core.Path.{_≡_, refl, sym, ap, subst, _∙_}
 use mathlib.Core.Bool.{true}
 use mathlib.Core.List.{List, [], _∷_, _++_, append-assoc}
 use Prim.Native.Nat.{ℕ, suc, _+_, _-_, _≤_, _<_}
-use native.Mathlib.Nat.{sub-zero}
+use native.Mathlib.Nat.{add-zero, sub-zero}
 use native.Mathlib.Numerals.{add-one}
 use native.Mathlib.Omega.{arith}
 use lib.ListN.{length, take, drop, getD, length-append}
 use lib.Seq.{take-take, drop-cons}
 use Rattle.rules.specs.Octets.{lf, every, isNot, run, front}
 use Rattle.rules.specs.Lines.{judged, mostHeld}
-use Rattle.rules.specs.Answers.{Side, client, server, isQueueFull}
+use Rattle.rules.specs.Answers.{Side, client, server}
 use Rattle.octets.proofs.Runs.{run-length, every-front, part-rest, part-length}
-use Rattle.output.specs.Buffer.{putAt, positionAfter}
+use Rattle.output.specs.Buffer.{putAt, Put}
 use Rattle.output.proofs.Placing.{length-put, take-put-at, after-fits, nothing-put, put-after}
 use Rattle.places.specs.declared.Place.{Place}
+use Rattle.places.specs.declared.Direction.{Direction}
 use Rattle.places.specs.Places.{at}
 use Rattle.rules.specs.declared.Fixed.{Fixed}
-use Rattle.steps.specs.declared.Written.{Written}
 use Rattle.steps.specs.Steps.{State, octetStep}
-use Rattle.records.specs.Sound.{Counted}
+use Rattle.records.specs.Sound.{directionOf, Counted}
 use Rattle.steps.specs.Takes.{takes, Core, coreFrom}
 use Rattle.steps.specs.Core.{Bounded, Stepped, stepFits, octetFits}
 use Rattle.steps.specs.Settled.{Settled}
-use Rattle.arrivals.specs.Runs.{prefixed, holding, holdsMore, Ran}
+use Rattle.arrivals.specs.Runs.{prefixed, toServerOf, toClientOf, lineOf, withCommand, withReply, holding, holdsMore, Ran, GivesOn, givesNothing, Moved, movedOn, movedBehind, DirectionRan}
 use Rattle.arrivals.proofs.Going.{Going, put-at-rest}
 use Rattle.steps.proofs.Stops.{fits-room}
 use Rattle.steps.proofs.Octets.{core-next}
-use Rattle.arrivals.proofs.Runs.{Open, one-taken, passes-run, flows-run, holds-run}
+use Rattle.arrivals.proofs.Runs.{Open, one-taken, gives-run, holds-run}
 
 -- ---- the loop goes on over a run
 
@@ -209,144 +209,157 @@ module _ (f : Fixed) (d : Side) (l : List ℕ) (k k′ k″ : Core) (i j e : ℕ
         counted = λ c. q .counted (r .counted c);
       }
 
--- octets that the client gives on, or the server: out is the buffer then, and next the position behind them
-module _ (f : Fixed) (l : List ℕ) (s : State) (sb cb : List ℕ) (w : Written) (i j : ℕ) (h : i ≤ j) (g : j ≤ length l)
-    (next : ℕ) (out : List ℕ) where
+-- ---- what one direction's run leaves of the whole
+
+-- the buffer that a side's octets go to, and how far it is written
+abbrev pub bufferOf : Side → Core → List ℕ
+bufferOf client k = k .serverBuffer
+bufferOf server k = k .clientBuffer
+
+abbrev pub positionOf : Side → Core → ℕ
+positionOf client k = k .written .server
+positionOf server k = k .written .client
+
+-- the core with another direction, array, buffer and position of a side's
+abbrev pub coreRan : Side → Core → Direction → List ℕ → List ℕ → ℕ → Core
+coreRan client k e line out n = coreFrom (withCommand (k .state) e line) out (k .clientBuffer) (record { server = n; client = k .written .client })
+coreRan server k e line out n = coreFrom (withReply (k .state) e line) (k .serverBuffer) out (record { server = k .written .server; client = n })
+
+-- the core with another state, for which a went to the server and b to the client
+abbrev coreGiven : State → Core → List ℕ → List ℕ → Core
+coreGiven s k a b =
+    coreFrom s (putAt (k .serverBuffer) (k .written .server) a) (putAt (k .clientBuffer) (k .written .client) b)
+    (record { server = k .written .server + length a; client = k .written .client + length b })
+
+module _ (k : Core) (xs : List ℕ) where
+  core-given : (d : Side) → coreGiven (k .state) k (toServerOf d xs) (toClientOf d xs)
+      ≡ coreRan d k (directionOf d (k .state .control)) (lineOf d (k .state)) (putAt (bufferOf d k) (positionOf d k) xs) (positionOf d k + length xs)
+  core-given client = λ t. coreFrom (k .state) (putAt (k .serverBuffer) (k .written .server) xs)
+      (sym (nothing-put (k .clientBuffer) (k .written .client) .1) t)
+      (record { server = k .written .server + length xs; client = add-zero (k .written .client) t })
+  core-given server = λ t. coreFrom (k .state) (sym (nothing-put (k .serverBuffer) (k .written .server) .1) t)
+      (putAt (k .clientBuffer) (k .written .client) xs)
+      (record { server = add-zero (k .written .server) t; client = k .written .client + length xs })
+
+  given-room : k .written .server ≤ length (k .serverBuffer) → k .written .client ≤ length (k .clientBuffer)
+      → (d : Side) → positionOf d k + length xs ≤ length (bufferOf d k)
+      → (k .written .server + length (toServerOf d xs) ≤ length (k .serverBuffer))
+      × (k .written .client + length (toClientOf d xs) ≤ length (k .clientBuffer))
+  given-room a b client room = (room, omega arith)
+  given-room a b server room = (omega arith, room)
+
+module _ (k : Core) (n : ℕ) (line : List ℕ) where
+  core-kept : (s : State) → coreGiven s k [] [] ≡ coreFrom s (k .serverBuffer) (k .clientBuffer) (k .written)
+  core-kept s = λ t. coreFrom s (sym (nothing-put (k .serverBuffer) (k .written .server) .1) t)
+      (sym (nothing-put (k .clientBuffer) (k .written .client) .1) t)
+      (record { server = add-zero (k .written .server) t; client = add-zero (k .written .client) t })
+
+  core-held : (d : Side) → coreGiven (holding d (k .state) n line) k [] [] ≡ coreRan d k (at Place.Holding n) line (bufferOf d k) (positionOf d k)
+  core-held client = core-kept (holding client (k .state) n line)
+  core-held server = core-kept (holding server (k .state) n line)
+
+  held-counted : (d : Side) → n ≤ mostHeld → Counted (k .state .control) → Counted (holding d (k .state) n line .control)
+  held-counted client h c = record { owed = c .owed; command = h; reply = c .reply }
+  held-counted server h c = record { owed = c .owed; command = c .command; reply = h }
+
+module _ (f : Fixed) (d : Side) (l : List ℕ) (k : Core) (i j : ℕ) (h : i ≤ j) (g : j ≤ length l) where
   abbrev xs : List ℕ
   xs = take (j - i) (drop i l)
 
-  client-gives : w .server + (j - i) ≤ length sb → w .client ≤ length cb
-      → ((m n : ℕ) → length xs ≤ m → takes f client s (xs ++ drop j l) m n ≡ prefixed (length xs) xs []
-      (takes f client s (drop j l) (m - length xs) (n - 0)))
-      → next ≡ positionAfter sb (w .server) xs → out ≡ putAt sb (w .server) xs
-      → Ran f client l (coreFrom s sb cb w) i (coreFrom s out cb (record { server = next; client = w .client })) j
-  client-gives room other law en eo =
-      let size : length xs ≡ j - i = part-length l i j h g in
-      let fits : w .server + length xs ≤ length sb = omega arith in
-      let at = en ∙ after-fits sb (w .server) xs fits in
-      let kept = nothing-put cb (w .client) .1 in
-      let wc : w .client ≡ w .client + 0 = omega arith in
+  -- the octets from i to j, for which a goes to the server and b to the client
+  ran-part : (s : State) (a b : List ℕ)
+      → k .written .server + length a ≤ length (k .serverBuffer) → k .written .client + length b ≤ length (k .clientBuffer)
+      → (Counted (k .state .control) → Counted (s .control))
+      → ((m n : ℕ) → length a ≤ m → length b ≤ n → takes f d (k .state) (xs ++ drop j l) m n
+      ≡ prefixed (length xs) a b (takes f d s (drop j l) (m - length a) (n - length b)))
+      → Ran f d l k i (coreGiven s k a b) j
+  ran-part s a b server-room client-room counts law =
       record {
-        toServer = xs;
-        toClient = [];
+        toServer = a;
+        toClient = b;
         forward = h;
         inside = g;
-        server = fits;
-        client = omega arith;
-        rest = λ m n a _.
-            (λ t. takes f client s (part-rest l i j h t) m n) ∙ law m n a
-            ∙ (λ t. prefixed (size t) xs [] (takes f client s (drop j l) (m - length xs) (n - 0)));
-        core = λ t. coreFrom s (eo t) (kept t) (record { server = at t; client = wc t });
-        counted = λ c. c;
-      }
-
-  server-gives : w .client + (j - i) ≤ length cb → w .server ≤ length sb
-      → ((m n : ℕ) → length xs ≤ n → takes f server s (xs ++ drop j l) m n ≡ prefixed (length xs) [] xs
-      (takes f server s (drop j l) (m - 0) (n - length xs)))
-      → next ≡ positionAfter cb (w .client) xs → out ≡ putAt cb (w .client) xs
-      → Ran f server l (coreFrom s sb cb w) i (coreFrom s sb out (record { server = w .server; client = next })) j
-  server-gives room other law en eo =
-      let size : length xs ≡ j - i = part-length l i j h g in
-      let fits : w .client + length xs ≤ length cb = omega arith in
-      let at = en ∙ after-fits cb (w .client) xs fits in
-      let kept = nothing-put sb (w .server) .1 in
-      let ws : w .server ≡ w .server + 0 = omega arith in
-      record {
-        toServer = [];
-        toClient = xs;
-        forward = h;
-        inside = g;
-        server = omega arith;
-        client = fits;
-        rest = λ m n _ b.
-            (λ t. takes f server s (part-rest l i j h t) m n) ∙ law m n b
-            ∙ (λ t. prefixed (size t) [] xs (takes f server s (drop j l) (m - 0) (n - length xs)));
-        core = λ t. coreFrom s (kept t) (eo t) (record { server = ws t; client = at t });
-        counted = λ c. c;
-      }
-
-  pub client-passed : Settled s → s .control .client ≡ at Place.Passing 0 → w .server + (j - i) ≤ length sb
-      → w .client ≤ length cb
-      → next ≡ positionAfter sb (w .server) xs → out ≡ putAt sb (w .server) xs
-      → Ran f client l (coreFrom s sb cb w) i (coreFrom s out cb (record { server = next; client = w .client })) j
-  client-passed settled p room other =
-      client-gives room other (λ m n a. passes-run f client s settled p xs (drop j l) m n a (omega arith))
-
-  pub server-passed : Settled s → s .control .server ≡ at Place.Passing 0 → w .client + (j - i) ≤ length cb
-      → w .server ≤ length sb
-      → next ≡ positionAfter cb (w .client) xs → out ≡ putAt cb (w .client) xs
-      → Ran f server l (coreFrom s sb cb w) i (coreFrom s sb out (record { server = w .server; client = next })) j
-  server-passed settled p room other =
-      server-gives room other (λ m n b. passes-run f server s settled p xs (drop j l) m n (omega arith) b)
-
-  pub client-flowed : Settled s → s .control .client ≡ at Place.Flowing 0 → Open client s
-      → every (isNot lf) xs ≡ true → w .server + (j - i) ≤ length sb → w .client ≤ length cb
-      → next ≡ positionAfter sb (w .server) xs → out ≡ putAt sb (w .server) xs
-      → Ran f client l (coreFrom s sb cb w) i (coreFrom s out cb (record { server = next; client = w .client })) j
-  client-flowed settled p queue none room other =
-      client-gives room other (λ m n a. flows-run f client s settled p queue xs (drop j l) m n none a (omega arith))
-
-  pub server-flowed : Settled s → s .control .server ≡ at Place.Flowing 0 → every (isNot lf) xs ≡ true
-      → w .client + (j - i) ≤ length cb → w .server ≤ length sb
-      → next ≡ positionAfter cb (w .client) xs → out ≡ putAt cb (w .client) xs
-      → Ran f server l (coreFrom s sb cb w) i (coreFrom s sb out (record { server = w .server; client = next })) j
-  unfolding isQueueFull
-  server-flowed settled p none room other =
-      server-gives room other (λ m n b. flows-run f server s settled p refl xs (drop j l) m n none (omega arith) b)
-
--- octets that a side holds: n is the number held then, and line the array
-module _ (f : Fixed) (l : List ℕ) (s : State) (sb cb : List ℕ) (w : Written) (i j : ℕ) (h : i ≤ j) (g : j ≤ length l)
-    (n : ℕ) (line : List ℕ) (server-room : w .server ≤ length sb) (client-room : w .client ≤ length cb) where
-  abbrev ys : List ℕ
-  ys = take (j - i) (drop i l)
-
-  holds-part : (d : Side) (s′ : State) → s′ ≡ holdsMore d s ys → (Counted (s .control) → Counted (s′ .control))
-      → ((m n : ℕ) → takes f d s (ys ++ drop j l) m n ≡ prefixed (length ys) [] []
-      (takes f d (holdsMore d s ys) (drop j l) m n))
-      → Ran f d l (coreFrom s sb cb w) i (coreFrom s′ sb cb w) j
-  holds-part d s′ e counts law =
-      let size : length ys ≡ j - i = part-length l i j h g in
-      let ps = nothing-put sb (w .server) .1 in
-      let pc = nothing-put cb (w .client) .1 in
-      let ws : w .server ≡ w .server + 0 = omega arith in
-      let wc : w .client ≡ w .client + 0 = omega arith in
-      record {
-        toServer = [];
-        toClient = [];
-        forward = h;
-        inside = g;
-        server = omega arith;
-        client = omega arith;
-        rest = λ m n _ _.
-            (λ t. takes f d s (part-rest l i j h t) m n) ∙ law m n
-            ∙ (λ t. prefixed (size t) [] [] (takes f d (sym e t) (drop j l) (sym (sub-zero m) t) (sym (sub-zero n) t)));
-        core = λ t. coreFrom s′ (ps t) (pc t) (record { server = ws t; client = wc t });
+        server = server-room;
+        client = client-room;
+        rest = λ m n p q.
+            (λ t. takes f d (k .state) (part-rest l i j h t) m n) ∙ (law m n p q
+            ∙ (λ t. prefixed (part-length l i j h g t) a b (takes f d s (drop j l) (m - length a) (n - length b))));
+        core = refl;
         counted = counts;
       }
 
-  pub client-held : Settled s → s .control .client .place ≡ Place.Holding → Open client s → every (isNot lf) ys ≡ true
-      → s .control .client .held + (j - i) ≤ mostHeld → length (s .command) ≡ mostHeld
-      → n ≡ s .control .client .held + (j - i) → line ≡ putAt (s .command) (s .control .client .held) ys
-      → Ran f client l (coreFrom s sb cb w) i (coreFrom (holding client s n line) sb cb w) j
-  unfolding judged
-  client-held settled p queue none most array en el =
-      let size : length ys ≡ j - i = part-length l i j h g in
-      let count : n ≡ s .control .client .held + length ys = omega arith in
-      holds-part client (holding client s n line) (λ t. holding client s (count t) (el t))
-      (λ c. record { owed = c .owed; command = omega arith; reply = c .reply })
-      (λ m n. holds-run f client s settled p queue ys (drop j l) m n none (omega arith) (omega arith))
+  module _ (settled : Settled (k .state)) (queue : Open d (k .state)) (server-room : k .written .server ≤ length (k .serverBuffer))
+      (client-room : k .written .client ≤ length (k .clientBuffer)) where
+    -- they are held: n is the number held then, and line the array
+    pub ran-held : (n : ℕ) (line : List ℕ) → directionOf d (k .state .control) .place ≡ Place.Holding → every (isNot lf) xs ≡ true
+        → directionOf d (k .state .control) .held + (j - i) ≤ mostHeld → length (lineOf d (k .state)) ≡ mostHeld
+        → n ≡ directionOf d (k .state .control) .held + (j - i)
+        → line ≡ putAt (lineOf d (k .state)) (directionOf d (k .state .control) .held) xs
+        → Ran f d l k i (coreRan d k (at Place.Holding n) line (bufferOf d k) (positionOf d k)) j
+    unfolding judged
+    ran-held n line place none most array en el =
+        let size : length xs ≡ j - i = part-length l i j h g in
+        let count : n ≡ directionOf d (k .state .control) .held + length xs = omega arith in
+        let same : holding d (k .state) n line ≡ holdsMore d (k .state) xs = λ t. holding d (k .state) (count t) (el t) in
+        subst (λ (c : Core). Ran f d l k i c j) (core-held k n line d)
+        (ran-part (holding d (k .state) n line) [] [] (omega arith) (omega arith) (held-counted k n line d (omega arith))
+        (λ m n _ _. holds-run f d (k .state) settled place queue xs (drop j l) m n none (omega arith) (omega arith)
+        ∙ (λ t. prefixed (length xs) [] [] (takes f d (sym same t) (drop j l) (sym (sub-zero m) t) (sym (sub-zero n) t)))))
 
-  pub server-held : Settled s → s .control .server .place ≡ Place.Holding → every (isNot lf) ys ≡ true
-      → s .control .server .held + (j - i) ≤ mostHeld → length (s .reply) ≡ mostHeld
-      → n ≡ s .control .server .held + (j - i) → line ≡ putAt (s .reply) (s .control .server .held) ys
-      → Ran f server l (coreFrom s sb cb w) i (coreFrom (holding server s n line) sb cb w) j
-  unfolding judged isQueueFull
-  server-held settled p none most array en el =
-      let size : length ys ≡ j - i = part-length l i j h g in
-      let count : n ≡ s .control .server .held + length ys = omega arith in
-      holds-part server (holding server s n line) (λ t. holding server s (count t) (el t))
-      (λ c. record { owed = c .owed; command = c .command; reply = omega arith })
-      (λ m n. holds-run f server s settled p refl ys (drop j l) m n none (omega arith) (omega arith))
+    -- they go on as they come
+    ran-given : GivesOn (directionOf d (k .state .control)) xs
+        → k .written .server + length (toServerOf d xs) ≤ length (k .serverBuffer)
+        → k .written .client + length (toClientOf d xs) ≤ length (k .clientBuffer)
+        → Ran f d l k i (coreRan d k (directionOf d (k .state .control)) (lineOf d (k .state))
+        (putAt (bufferOf d k) (positionOf d k) xs) (positionOf d k + length xs)) j
+    ran-given gives a b =
+        subst (λ (c : Core). Ran f d l k i c j) (core-given k xs d)
+        (ran-part (k .state) (toServerOf d xs) (toClientOf d xs) a b (λ c. c)
+        (λ m n. gives-run f d (k .state) settled queue xs (drop j l) m n gives))
+
+    -- either, as the code has it
+    pub ran-moved : {e : Direction} {line out : List ℕ} {n : ℕ} → length (lineOf d (k .state)) ≡ mostHeld
+        → Moved xs (directionOf d (k .state .control)) (lineOf d (k .state)) (bufferOf d k) (positionOf d k) e line out n
+        → Ran f d l k i (coreRan d k e line out n) j
+    ran-moved array (movedOn gives room ed el eo en) =
+        let rooms = given-room k xs server-room client-room d room in
+        subst (λ (c : Core). Ran f d l k i c j) (λ t. coreRan d k (sym ed t) (sym el t) (sym eo t) (sym en t))
+        (ran-given gives (rooms .0) (rooms .1))
+    ran-moved array (movedBehind place none room ed el eo en) =
+        let size : length xs ≡ j - i = part-length l i j h g in
+        subst (λ (c : Core). Ran f d l k i c j) (λ t. coreRan d k (sym ed t) (sym el t) (sym eo t) (sym en t))
+        (ran-held (directionOf d (k .state .control) .held + length xs) _ place none (omega arith) array (omega arith) refl)
+
+-- ---- what the code's functions know of one direction
+
+pub given-none : (d : Direction) (l : List ℕ) (i : ℕ) → GivesOn d (take (i - i) (drop i l))
+given-none d l i =
+    let none : i - i ≡ 0 = omega arith in
+    givesNothing (ap (λ (n : ℕ). take n (drop i l)) none)
+
+module _ {l : List ℕ} {i j : ℕ} {d : Direction} (line out : List ℕ) {n : ℕ} where
+  pub held-run : {line′ : List ℕ} → d .place ≡ Place.Holding → (i ≤ j) × (j ≤ length l) × (d .held + (j - i) ≤ length line)
+      → every (isNot lf) (take (j - i) (drop i l)) ≡ true → line′ ≡ putAt line (d .held) (take (j - i) (drop i l))
+      → DirectionRan l i d line out n (record { taken = j; direction = at Place.Holding (d .held + (j - i)); at = n }) line′ out
+  held-run place (h, g, most) none el =
+      let size = part-length l i j h g in
+      record {
+        forward = h;
+        inside = g;
+        moved = movedBehind place none (omega (arith, size)) (ap (λ (m : ℕ). at Place.Holding (d .held + m)) (sym size)) el refl refl;
+      }
+
+  pub given-run : {next : ℕ} {out′ : List ℕ} → n ≤ length out → (i ≤ j) × (j ≤ length l) × (j - i ≤ length out - n)
+      → GivesOn d (take (j - i) (drop i l)) → Put out n (take (j - i) (drop i l)) next out′
+      → DirectionRan l i d line out n (record { taken = j; direction = d; at = next }) line out′
+  given-run within (h, g, most) gives (en, eo) =
+      let size = part-length l i j h g in
+      let room : n + length (take (j - i) (drop i l)) ≤ length out = omega (arith, size) in
+      record {
+        forward = h;
+        inside = g;
+        moved = movedOn gives room refl refl eo (en ∙ after-fits out n (take (j - i) (drop i l)) room);
+      }
 
 -- the part of l from i to the end e that is no LF, as a search in the part from i to e found its length n
 pub no-lf-part : (l : List ℕ) (i e j n : ℕ) → i ≤ e → e ≤ length l

@@ -33,7 +33,7 @@ use Rattle.arrivals.specs.PlainRuns.{saidControl, SaidPlain}
 use Rattle.records.proofs.Limits.{full-by-count}
 use Rattle.arrivals.proofs.Runs.{Open, one-taken}
 use Rattle.arrivals.proofs.Single.{stepTo}
-use Rattle.arrivals.proofs.Parts.{ran-none, ran-then, client-held}
+use Rattle.arrivals.proofs.Parts.{ran-none, ran-then, ran-held}
 use Rattle.arrivals.proofs.LineEnds.{client-line, still-settled, pushed-still}
 use Rattle.steps.proofs.Lent.{put-part, put-size, kinds-size, kinds-back, kinds-addresses, kind-stored, command-back, command-kinds, command-addresses}
 
@@ -154,7 +154,7 @@ module _ (l : List ℕ) {i j : ℕ} (held : ℕ) (lent : List ℕ) {p : List ℕ
             let settled = still-settled s still in
             subst (λ (t : State). Ran f client l (coreFrom s out toClient w) i (coreFrom t out toClient w) j)
             (sym (command-back lent all p line-size (saidControl c n owed)))
-            (client-held f l s out toClient w i j h g n p inside fits settled refl (few-open owed few) none most before-size refl line);
+            (ran-held f client l (coreFrom s out toClient w) i j h g settled (few-open owed few) inside fits n p refl none most before-size refl line);
         held = most;
         owed = omega arith;
         written = inside;

@@ -41,8 +41,8 @@ use Rattle.arrivals.specs.Runs.{Ran}
 use Rattle.arrivals.specs.PlainRuns.{isPlainFirst, plainRemoves, keepsStill, answeredControl, AnsweredPlain}
 use Rattle.arrivals.proofs.Single.{stepTo}
 use Rattle.queue.proofs.Answers.{answers-none}
-use Rattle.arrivals.proofs.Runs.{one-taken}
-use Rattle.arrivals.proofs.Parts.{ran-none, ran-then, server-held}
+use Rattle.arrivals.proofs.Runs.{one-taken, server-open}
+use Rattle.arrivals.proofs.Parts.{ran-none, ran-then, ran-held}
 use Rattle.queue.proofs.Still.{still-answers, still-auth}
 use Rattle.arrivals.proofs.LineEnds.{still-settled}
 use Rattle.steps.proofs.Lent.{put-size, kinds-size, kinds-addresses, kinds-back, put-part, reply-addresses, reply-kinds, reply-back}
@@ -327,7 +327,7 @@ module _ (l : List ℕ) (i j h : ℕ) (lent p : List ℕ) (all : length lent ≡
             let s = stateLent (answeredControl c h m u) lent in
             let b : Written = record { server = k; client = w } in
             let before = reply-lent lent all in
-            let run = server-held f l s sb out b i j forward inside held p other written (still-settled s still) refl none
+            let run = ran-held f server l (coreFrom s sb out b) i j forward inside (still-settled s still) (server-open s) other written held p refl none
             (omega (arith, line-size)) (sym (ap length before) ∙ line-size) refl (put ∙ ap (λ (z : List ℕ). putAt z h ys) before) in
             subst (λ (z : State). Ran f server l (coreFrom s sb out b) i (coreFrom z sb out b) j) (sym (reply-back lent all p part-size (answeredControl c held m u))) run;
         held = omega (arith, line-size);

@@ -1,13 +1,13 @@
 -- A run is its octets: what `takes` makes of octets that pass, flow or are held, in one part.
 use mathlib.Core.Path.{_≡_, refl, sym, ap, subst, _∙_}
-use mathlib.Core.Bool.{Bool, true, false}
+use mathlib.Core.Bool.{Bool, true, false, false≢true}
 use mathlib.Core.List.{List, [], _∷_, _++_, append-assoc}
 use Prim.Native.Nat.{ℕ, suc, _+_, _-_, _<_, _≤_}
 use native.Mathlib.Nat.{add-zero, sub-zero}
 use native.Mathlib.Numerals.{add-one}
 use native.Mathlib.Omega.{arith}
 use lib.Dec.{eqb}
-use lib.ListN.{length, take, drop, set, length-set}
+use lib.ListN.{length, take, drop, set, length-append, length-set}
 use lib.Seq.{set-split}
 use borrow.Author.Tests.{le-leb, not-true}
 use Rattle.rules.specs.Octets.{lf, choose, every, isNot}
@@ -24,8 +24,8 @@ use Rattle.rules.specs.declared.Fixed.{Fixed}
 use Rattle.steps.specs.Steps.{State, Step, octetStep}
 use Rattle.steps.specs.Takes.{Took, andThen, unlessStopped, stopOf, takes}
 use Rattle.steps.specs.Settled.{Settled}
-use Rattle.arrivals.specs.Runs.{prefixed, toServerOf, toClientOf, lineOf, holding, holdsMore}
-use Rattle.arrivals.proofs.Single.{stepTo, client-passes, client-flows, client-holds, client-kept, server-passes, server-flows, server-holds, server-kept}
+use Rattle.arrivals.specs.Runs.{prefixed, toServerOf, toClientOf, lineOf, withLine, holding, holdsMore, GivesOn, givesNothing, givesPassing, givesFlowing}
+use Rattle.arrivals.proofs.Single.{stepTo, holding-kept, octet-passes, octet-flows, octet-held}
 
 -- number 1 is not given for the next octet
 abbrev pub Open : Side → State → Type 0
@@ -66,42 +66,50 @@ module _ (f : Fixed) (d : Side) (s : State) (x : ℕ) (ys : List ℕ) (m n : ℕ
 
 -- ---- octets that leave the state as it is
 
-module _ (f : Fixed) (s : State) (p : ℕ → Bool) (ys : List ℕ) where
-  client-run : ((x : ℕ) → p x ≡ true → octetStep f client s x ≡ stepTo s (x ∷ []) []) → Open client s
-      → (xs : List ℕ) (m n : ℕ) → every p xs ≡ true → length xs ≤ m
-      → takes f client s (xs ++ ys) m n ≡ prefixed (length xs) xs [] (takes f client s ys (m - length xs) n)
-  unfolding every
-  client-run step queue [] m n t h =
-      none-before (takes f client s ys m n)
-      ∙ (λ i. prefixed 0 [] [] (takes f client s ys (sym (sub-zero m) i) n))
-  client-run step queue (x ∷ xs) m n t h =
-      let both = and-both (p x) (every p xs) t in
-      let rest = client-run step queue xs (m - 1) n (both .1) (omega arith) in
-      let less : m - 1 - length xs ≡ m - suc (length xs) = omega arith in
-      let r = takes f client s ys (m - suc (length xs)) n in
-      one-taken f client s x (xs ++ ys) m n (stepTo s (x ∷ []) []) (step x (both .0)) queue (omega arith) (omega arith)
-      ∙ ap (andThen (stepTo s (x ∷ []) []))
-      ((λ i. takes f client s (xs ++ ys) (m - 1) (sub-zero n i))
-      ∙ (rest ∙ (λ i. prefixed (length xs) xs [] (takes f client s ys (less i) n))))
-      ∙ one-before (stepTo s (x ∷ []) []) (length xs) xs [] r
+-- the texts of no octet, and of one before others
+none-given : (d : Side) → (toServerOf d [] ≡ []) × (toClientOf d [] ≡ [])
+none-given client = (refl, refl)
+none-given server = (refl, refl)
 
-  server-run : ((x : ℕ) → p x ≡ true → octetStep f server s x ≡ stepTo s [] (x ∷ [])) → Open server s
-      → (xs : List ℕ) (m n : ℕ) → every p xs ≡ true → length xs ≤ n
-      → takes f server s (xs ++ ys) m n ≡ prefixed (length xs) [] xs (takes f server s ys m (n - length xs))
+module _ (x : ℕ) (xs : List ℕ) where
+  one-given : (d : Side) → (toServerOf d (x ∷ xs) ≡ toServerOf d (x ∷ []) ++ toServerOf d xs)
+      × (toClientOf d (x ∷ xs) ≡ toClientOf d (x ∷ []) ++ toClientOf d xs)
+  one-given client = (refl, refl)
+  one-given server = (refl, refl)
+
+-- the octets xs before ys go on as they are, in one part, where there is room for them
+abbrev GoOn : Fixed → Side → State → List ℕ → List ℕ → ℕ → ℕ → Type 0
+GoOn f d s xs ys m n =
+    length (toServerOf d xs) ≤ m → length (toClientOf d xs) ≤ n
+    → takes f d s (xs ++ ys) m n
+    ≡ prefixed (length xs) (toServerOf d xs) (toClientOf d xs)
+    (takes f d s ys (m - length (toServerOf d xs)) (n - length (toClientOf d xs)))
+
+module _ (f : Fixed) (d : Side) (s : State) (p : ℕ → Bool) (ys : List ℕ) (queue : Open d s)
+    (step : (x : ℕ) → p x ≡ true → octetStep f d s x ≡ stepTo s (toServerOf d (x ∷ [])) (toClientOf d (x ∷ []))) where
+  same-run : (xs : List ℕ) (m n : ℕ) → every p xs ≡ true → GoOn f d s xs ys m n
   unfolding every
-  server-run step queue [] m n t h =
-      none-before (takes f server s ys m n)
-      ∙ (λ i. prefixed 0 [] [] (takes f server s ys m (sym (sub-zero n) i)))
-  server-run step queue (x ∷ xs) m n t h =
+  same-run [] m n t a b =
+      let none = none-given d in
+      none-before (takes f d s ys m n)
+      ∙ ((λ i. prefixed 0 [] [] (takes f d s ys (sym (sub-zero m) i) (sym (sub-zero n) i)))
+      ∙ (λ i. prefixed 0 (sym (none .0) i) (sym (none .1) i)
+      (takes f d s ys (m - length (sym (none .0) i)) (n - length (sym (none .1) i)))))
+  same-run (x ∷ xs) m n t a b =
       let both = and-both (p x) (every p xs) t in
-      let rest = server-run step queue xs m (n - 1) (both .1) (omega arith) in
-      let less : n - 1 - length xs ≡ n - suc (length xs) = omega arith in
-      let r = takes f server s ys m (n - suc (length xs)) in
-      one-taken f server s x (xs ++ ys) m n (stepTo s [] (x ∷ [])) (step x (both .0)) queue (omega arith) (omega arith)
-      ∙ ap (andThen (stepTo s [] (x ∷ [])))
-      ((λ i. takes f server s (xs ++ ys) (sub-zero m i) (n - 1))
-      ∙ (rest ∙ (λ i. prefixed (length xs) [] xs (takes f server s ys m (less i)))))
-      ∙ one-before (stepTo s [] (x ∷ [])) (length xs) [] xs r
+      let one = stepTo s (toServerOf d (x ∷ [])) (toClientOf d (x ∷ [])) in
+      let given = one-given x xs d in
+      let ls = ap length (given .0) ∙ length-append (one .toServer) (toServerOf d xs) in
+      let lc = ap length (given .1) ∙ length-append (one .toClient) (toClientOf d xs) in
+      let less : m - length (one .toServer) - length (toServerOf d xs) ≡ m - length (toServerOf d (x ∷ xs)) = omega (arith, ls) in
+      let left : n - length (one .toClient) - length (toClientOf d xs) ≡ n - length (toClientOf d (x ∷ xs)) = omega (arith, lc) in
+      let r = takes f d s ys (m - length (toServerOf d (x ∷ xs))) (n - length (toClientOf d (x ∷ xs))) in
+      one-taken f d s x (xs ++ ys) m n one (step x (both .0)) queue (omega (arith, ls)) (omega (arith, lc))
+      ∙ (ap (andThen one)
+      (same-run xs (m - length (one .toServer)) (n - length (one .toClient)) (both .1) (omega (arith, ls)) (omega (arith, lc))
+      ∙ (λ i. prefixed (length xs) (toServerOf d xs) (toClientOf d xs) (takes f d s ys (less i) (left i))))
+      ∙ (one-before one (length xs) (toServerOf d xs) (toClientOf d xs) r
+      ∙ (λ i. prefixed (suc (length xs)) (sym (given .0) i) (sym (given .1) i) r)))
 
 -- a test that every octet passes
 abbrev any : ℕ → Bool
@@ -116,38 +124,39 @@ every-any (x ∷ xs) = every-any xs
 no-lf : (x : ℕ) → isNot lf x ≡ true → eqb x lf ≡ false
 no-lf x e = not-true (eqb x lf) e
 
+pub server-open : (s : State) → Open server s
+unfolding isQueueFull
+server-open s = refl
+
 passing-open : (d : Side) (s : State) → directionOf d (s .control) ≡ at Place.Passing 0 → Open d s
 unfolding isQueueFull
 passing-open client s p = rw (ap (λ (e : Direction). e .place) p)
-passing-open server s p = refl
+passing-open server s p = server-open s
 
 -- Passing: octets for which there is room, in one part.
 pub passes-run : (f : Fixed) (d : Side) (s : State) → Settled s → directionOf d (s .control) ≡ at Place.Passing 0
-    → (xs ys : List ℕ) (m n : ℕ)
-    → length (toServerOf d xs) ≤ m → length (toClientOf d xs) ≤ n
-    → takes f d s (xs ++ ys) m n
-    ≡ prefixed (length xs) (toServerOf d xs) (toClientOf d xs)
-    (takes f d s ys (m - length (toServerOf d xs)) (n - length (toClientOf d xs)))
-passes-run f client s settled p xs ys m n a b =
-    client-run f s any ys (λ x _. client-passes f s x settled p) (passing-open client s p) xs m n (every-any xs) a
-    ∙ (λ i. prefixed (length xs) xs [] (takes f client s ys (m - length xs) (sym (sub-zero n) i)))
-passes-run f server s settled p xs ys m n a b =
-    server-run f s any ys (λ x _. server-passes f s x settled p) (passing-open server s p) xs m n (every-any xs) b
-    ∙ (λ i. prefixed (length xs) [] xs (takes f server s ys (sym (sub-zero m) i) (n - length xs)))
+    → (xs ys : List ℕ) (m n : ℕ) → GoOn f d s xs ys m n
+passes-run f d s settled p xs ys m n =
+    same-run f d s any ys (passing-open d s p) (λ x _. octet-passes f s x d settled p) xs m n (every-any xs)
 
 -- Flowing: the same of octets that are no LF, while number 1 is not given.
 pub flows-run : (f : Fixed) (d : Side) (s : State) → Settled s → directionOf d (s .control) ≡ at Place.Flowing 0
-    → Open d s → (xs ys : List ℕ) (m n : ℕ)
-    → every (isNot lf) xs ≡ true → length (toServerOf d xs) ≤ m → length (toClientOf d xs) ≤ n
-    → takes f d s (xs ++ ys) m n
-    ≡ prefixed (length xs) (toServerOf d xs) (toClientOf d xs)
-    (takes f d s ys (m - length (toServerOf d xs)) (n - length (toClientOf d xs)))
-flows-run f client s settled p queue xs ys m n t a b =
-    client-run f s (isNot lf) ys (λ x e. client-flows f s x settled p (no-lf x e)) queue xs m n t a
-    ∙ (λ i. prefixed (length xs) xs [] (takes f client s ys (m - length xs) (sym (sub-zero n) i)))
-flows-run f server s settled p queue xs ys m n t a b =
-    server-run f s (isNot lf) ys (λ x e. server-flows f s x settled p (no-lf x e)) queue xs m n t b
-    ∙ (λ i. prefixed (length xs) [] xs (takes f server s ys (sym (sub-zero m) i) (n - length xs)))
+    → Open d s → (xs ys : List ℕ) (m n : ℕ) → every (isNot lf) xs ≡ true → GoOn f d s xs ys m n
+flows-run f d s settled p queue xs ys m n =
+    same-run f d s (isNot lf) ys queue (λ x e. octet-flows f s x d settled p (no-lf x e)) xs m n
+
+-- a test that no octet passes
+abbrev never : ℕ → Bool
+never x = false
+
+-- Whatever a direction gives on: nothing, or either.
+pub gives-run : (f : Fixed) (d : Side) (s : State) → Settled s → Open d s → (xs ys : List ℕ) (m n : ℕ)
+    → GivesOn (directionOf d (s .control)) xs → GoOn f d s xs ys m n
+unfolding every
+gives-run f d s settled queue xs ys m n (givesNothing e) =
+    same-run f d s never ys queue (λ x h. absurd (false≢true h)) xs m n (ap (every never) e)
+gives-run f d s settled queue xs ys m n (givesPassing p) = passes-run f d s settled p xs ys m n
+gives-run f d s settled queue xs ys m n (givesFlowing p t) = flows-run f d s settled p queue xs ys m n t
 
 -- ---- octets that are held
 
@@ -160,90 +169,39 @@ put-more line k x xs h =
     ∙ sym (put-fits line k (x ∷ []) (omega arith)) in
     ap (λ (l : List ℕ). putAt l (k + 1) xs) put ∙ put-after line k (x ∷ []) xs h
 
--- by the number of octets held and the array, which change; s is any state with the rest of the record
-module _ (f : Fixed) (s : State) (ys : List ℕ) (m n : ℕ) where
-  client-hold : (xs : List ℕ) (k : ℕ) (line : List ℕ) → Settled (holding client s k line)
-      → Open client (holding client s k line)
-      → every (isNot lf) xs ≡ true → k + length xs < judged → k + length xs ≤ length line
-      → takes f client (holding client s k line) (xs ++ ys) m n
-      ≡ prefixed (length xs) [] [] (takes f client (holding client s (k + length xs) (putAt line k xs)) ys m n)
-  unfolding every
-  client-hold [] k line settled queue t h g =
-      none-before (takes f client (holding client s k line) ys m n)
-      ∙ (λ i. prefixed 0 [] [] (takes f client
-      (holding client s (sym (add-zero k) i) (nothing-put line k .1 i)) ys m n))
-  client-hold (x ∷ xs) k line settled queue t h g =
-      let both = and-both (isNot lf x) (every (isNot lf) xs) t in
-      let now = holding client s k line in
-      let next = holding client s (k + 1) (set line k x) in
-      let rest = client-hold xs (k + 1) (set line k x)
-      (client-kept now settled (at Place.Holding (k + 1)) (set line k x)) queue (both .1) (omega arith)
-      (omega (arith, length-set line k x)) in
-      let more : k + 1 + length xs ≡ k + suc (length xs) = omega arith in
-      let r = takes f client (holding client s (k + suc (length xs)) (putAt line k (x ∷ xs))) ys m n in
-      one-taken f client now x (xs ++ ys) m n (stepTo next [] [])
-      (client-holds f now x settled refl (no-lf x (both .0)) (omega arith)) queue (omega arith) (omega arith)
-      ∙ ap (andThen (stepTo next [] []))
-      ((λ i. takes f client next (xs ++ ys) (sub-zero m i) (sub-zero n i))
-      ∙ (rest ∙ (λ i. prefixed (length xs) [] []
-      (takes f client (holding client s (more i) (put-more line k x xs g i)) ys m n))))
-      ∙ one-before (stepTo next [] []) (length xs) [] [] r
+holding-open : (d : Side) (s : State) (k n : ℕ) (line line′ : List ℕ) → Open d (holding d s k line) → Open d (holding d s n line′)
+holding-open client s k n line line′ queue = queue
+holding-open server s k n line line′ queue = queue
 
-  server-hold : (xs : List ℕ) (k : ℕ) (line : List ℕ) → Settled (holding server s k line)
+-- by the number of octets held and the array, which change; s is any state with the rest of the record
+module _ (f : Fixed) (d : Side) (s : State) (ys : List ℕ) (m n : ℕ) where
+  hold-run : (xs : List ℕ) (k : ℕ) (line : List ℕ) → Settled (holding d s k line) → Open d (holding d s k line)
       → every (isNot lf) xs ≡ true → k + length xs < judged → k + length xs ≤ length line
-      → takes f server (holding server s k line) (xs ++ ys) m n
-      ≡ prefixed (length xs) [] [] (takes f server (holding server s (k + length xs) (putAt line k xs)) ys m n)
-  unfolding every isQueueFull
-  server-hold [] k line settled t h g =
-      none-before (takes f server (holding server s k line) ys m n)
-      ∙ (λ i. prefixed 0 [] [] (takes f server
-      (holding server s (sym (add-zero k) i) (nothing-put line k .1 i)) ys m n))
-  server-hold (x ∷ xs) k line settled t h g =
+      → takes f d (holding d s k line) (xs ++ ys) m n
+      ≡ prefixed (length xs) [] [] (takes f d (holding d s (k + length xs) (putAt line k xs)) ys m n)
+  unfolding every
+  hold-run [] k line settled queue t h g =
+      none-before (takes f d (holding d s k line) ys m n)
+      ∙ (λ i. prefixed 0 [] [] (takes f d (holding d s (sym (add-zero k) i) (nothing-put line k .1 i)) ys m n))
+  hold-run (x ∷ xs) k line settled queue t h g =
       let both = and-both (isNot lf x) (every (isNot lf) xs) t in
-      let now = holding server s k line in
-      let next = holding server s (k + 1) (set line k x) in
-      let rest = server-hold xs (k + 1) (set line k x) (server-kept now settled refl (k + 1) (set line k x)) (both .1)
-      (omega arith) (omega (arith, length-set line k x)) in
+      let next = holding d s (k + 1) (set line k x) in
+      let rest = hold-run xs (k + 1) (set line k x) (holding-kept d s k (k + 1) line (set line k x) settled)
+      (holding-open d s k (k + 1) line (set line k x) queue) (both .1) (omega arith) (omega (arith, length-set line k x)) in
       let more : k + 1 + length xs ≡ k + suc (length xs) = omega arith in
-      let r = takes f server (holding server s (k + suc (length xs)) (putAt line k (x ∷ xs))) ys m n in
-      one-taken f server now x (xs ++ ys) m n (stepTo next [] [])
-      (server-holds f now x settled refl (no-lf x (both .0)) (omega arith)) refl (omega arith) (omega arith)
+      let r = takes f d (holding d s (k + suc (length xs)) (putAt line k (x ∷ xs))) ys m n in
+      one-taken f d (holding d s k line) x (xs ++ ys) m n (stepTo next [] [])
+      (octet-held f s x d k line settled (no-lf x (both .0)) (omega arith)) queue (omega arith) (omega arith)
       ∙ ap (andThen (stepTo next [] []))
-      ((λ i. takes f server next (xs ++ ys) (sub-zero m i) (sub-zero n i))
-      ∙ (rest ∙ (λ i. prefixed (length xs) [] []
-      (takes f server (holding server s (more i) (put-more line k x xs g i)) ys m n))))
+      ((λ i. takes f d next (xs ++ ys) (sub-zero m i) (sub-zero n i))
+      ∙ (rest ∙ (λ i. prefixed (length xs) [] [] (takes f d (holding d s (more i) (put-more line k x xs g i)) ys m n))))
       ∙ one-before (stepTo next [] []) (length xs) [] [] r
 
 -- a holding state as one
-held-client : (s : State) → s .control .client .place ≡ Place.Holding
-    → s ≡ holding client s (s .control .client .held) (s .command)
-held-client s p = λ i. record {
-  control = record {
-    switches = s .control .switches;
-    client = at (p i) (s .control .client .held);
-    server = s .control .server;
-    owed = s .control .owed;
-    unfinished = s .control .unfinished;
-  };
-  command = s .command;
-  reply = s .reply;
-  kinds = s .kinds;
-}
-
-held-server : (s : State) → s .control .server .place ≡ Place.Holding
-    → s ≡ holding server s (s .control .server .held) (s .reply)
-held-server s p = λ i. record {
-  control = record {
-    switches = s .control .switches;
-    client = s .control .client;
-    server = at (p i) (s .control .server .held);
-    owed = s .control .owed;
-    unfinished = s .control .unfinished;
-  };
-  command = s .command;
-  reply = s .reply;
-  kinds = s .kinds;
-}
+held-same : (d : Side) (s : State) → directionOf d (s .control) .place ≡ Place.Holding
+    → s ≡ holding d s (directionOf d (s .control) .held) (lineOf d s)
+held-same client s p = λ i. withLine client s (at (p i) (s .control .client .held)) (s .command)
+held-same server s p = λ i. withLine server s (at (p i) (s .control .server .held)) (s .reply)
 
 -- Holding: octets that are no LF while the line stays below the limit; nothing is written, whatever the room.
 pub holds-run : (f : Fixed) (d : Side) (s : State) → Settled s → directionOf d (s .control) .place ≡ Place.Holding
@@ -251,12 +209,8 @@ pub holds-run : (f : Fixed) (d : Side) (s : State) → Settled s → directionOf
     → every (isNot lf) xs ≡ true → directionOf d (s .control) .held + length xs < judged
     → directionOf d (s .control) .held + length xs ≤ length (lineOf d s)
     → takes f d s (xs ++ ys) m n ≡ prefixed (length xs) [] [] (takes f d (holdsMore d s xs) ys m n)
-holds-run f client s settled p queue xs ys m n t h g =
-    let same = held-client s p in
-    (λ i. takes f client (same i) (xs ++ ys) m n)
-    ∙ client-hold f s ys m n xs (s .control .client .held) (s .command) (subst Settled same settled)
-    (subst (Open client) same queue) t h g
-holds-run f server s settled p queue xs ys m n t h g =
-    let same = held-server s p in
-    (λ i. takes f server (same i) (xs ++ ys) m n)
-    ∙ server-hold f s ys m n xs (s .control .server .held) (s .reply) (subst Settled same settled) t h g
+holds-run f d s settled p queue xs ys m n t h g =
+    let same = held-same d s p in
+    (λ i. takes f d (same i) (xs ++ ys) m n)
+    ∙ hold-run f d s ys m n xs (directionOf d (s .control) .held) (lineOf d s) (subst Settled same settled)
+    (subst (Open d) same queue) t h g

@@ -1,5 +1,5 @@
 -- One octet on a settled state that is held, flows or passes: its step in all, and that the state stays settled.
-use mathlib.Core.Path.{_≡_, sym, ap, subst, _∙_}
+use mathlib.Core.Path.{_≡_, refl, sym, ap, subst, _∙_}
 use mathlib.Core.Bool.{true, false, _||_, false≢true}
 use mathlib.Core.List.{List, [], _∷_, _++_}
 use Prim.Native.Nat.{ℕ, _+_, _<_}
@@ -8,7 +8,7 @@ use lib.ListN.{take, set}
 use borrow.Author.Tests.{lt-ltb}
 use Rattle.rules.specs.Octets.{lf}
 use Rattle.rules.specs.Lines.{judged}
-use Rattle.rules.specs.Answers.{client, server}
+use Rattle.rules.specs.Answers.{Side, client, server}
 use Rattle.octets.proofs.Choices.{choose-true}
 use Rattle.places.specs.declared.Place.{Place}
 use Rattle.places.specs.declared.Direction.{Direction}
@@ -20,10 +20,10 @@ use Rattle.queue.specs.Kinds.{pushed, headOf}
 use Rattle.upstream.specs.Upstream.{clientEffectOf, joinEffect, placeEffect, clientEffect}
 use Rattle.downstream.specs.Downstream.{serverEffectOf, replyOctet, replyEffect, serverEffect}
 use Rattle.rules.specs.declared.Fixed.{Fixed}
-use Rattle.records.specs.Sound.{blocked}
+use Rattle.records.specs.Sound.{blocked, directionOf}
 use Rattle.steps.specs.Steps.{State, Step, stored, owedThen, clientEffectIn, clientState, clientStep, serverEffectIn, serverState, serverStep, octetStep}
 use Rattle.steps.specs.Settled.{Through, throughPassing, throughEnded, Settled}
-use Rattle.arrivals.specs.Runs.{withCommand, withReply}
+use Rattle.arrivals.specs.Runs.{toServerOf, toClientOf, withCommand, withReply, holding}
 use Rattle.steps.proofs.Quiet.{settles-same, settles-silent}
 
 -- ---- the steps
@@ -55,40 +55,14 @@ module _ (f : Fixed) (s : State) (x : ℕ) where
         toClient = settles-silent t settled i;
       })
 
-  module _ (settled : Settled s) where
-    pub client-passes : s .control .client ≡ at Place.Passing 0 → octetStep f client s x ≡ stepTo s (x ∷ []) []
-    unfolding clientEffectIn clientEffect placeEffect givesText stored
-    client-passes p =
-        let e : clientEffectIn f s x ≡ clientEffectOf Gives.Octet (at Place.Passing 0)
-        (s .control .switches) Owes.Nothing =
-        ap (λ (d : Direction). clientEffect f (s .control .switches) d (s .command) x) p in
-        client-step Gives.Octet (at Place.Passing 0) e (client-kept s settled (at Place.Passing 0) (s .command))
-        ∙ (λ i. stepTo (withCommand s (sym p i) (s .command)) (x ∷ []) [])
-
-    pub client-flows : s .control .client ≡ at Place.Flowing 0 → eqb x lf ≡ false
-        → octetStep f client s x ≡ stepTo s (x ∷ []) []
-    unfolding clientEffectIn clientEffect placeEffect givesText stored
-    client-flows p n =
-        let e : clientEffectIn f s x ≡ clientEffectOf Gives.Octet (at Place.Flowing 0)
-        (s .control .switches) Owes.Nothing =
-        (λ i. placeEffect f (s .control .switches) (p i .place) (p i .held)
-        (take (p i .held) (s .command)) (n i)) in
-        client-step Gives.Octet (at Place.Flowing 0) e (client-kept s settled (at Place.Flowing 0) (s .command))
-        ∙ (λ i. stepTo (withCommand s (sym p i) (s .command)) (x ∷ []) [])
-
-    pub client-holds : s .control .client .place ≡ Place.Holding → eqb x lf ≡ false
-        → s .control .client .held + 1 < judged
-        → octetStep f client s x ≡ stepTo
-        (withCommand s (at Place.Holding (s .control .client .held + 1))
-        (set (s .command) (s .control .client .held) x)) [] []
-    unfolding clientEffectIn clientEffect placeEffect joinEffect givesText stored
-    client-holds p n h =
-        let k = s .control .client .held in
-        let d = at Place.Holding (k + 1) in
-        let e : clientEffectIn f s x ≡ clientEffectOf Gives.Held d (s .control .switches) Owes.Nothing =
-        (λ i. placeEffect f (s .control .switches) (p i) k (take k (s .command)) (n i))
-        ∙ choose-true _ _ (lt-ltb (k + 1) judged h) in
-        client-step Gives.Held d e (client-kept s settled d (set (s .command) k x))
+  -- an octet that goes on as it is leaves the state alone
+  client-gives : Settled s → (p : Place) → s .control .client ≡ at p 0
+      → clientEffectIn f s x ≡ clientEffectOf Gives.Octet (at p 0) (s .control .switches) Owes.Nothing
+      → octetStep f client s x ≡ stepTo s (x ∷ []) []
+  unfolding givesText stored
+  client-gives settled p place e =
+      client-step Gives.Octet (at p 0) e (client-kept s settled (at p 0) (s .command))
+      ∙ (λ i. stepTo (withCommand s (sym place i) (s .command)) (x ∷ []) [])
 
 -- ---- of the server
 
@@ -122,38 +96,50 @@ module _ (f : Fixed) (s : State) (x : ℕ) where
         toClient = givesText f (take (s .control .server .held) (s .reply)) x g ++ settles-silent t settled i;
       })
 
-  module _ (settled : Settled s) where
-    pub server-passes : s .control .server ≡ at Place.Passing 0 → octetStep f server s x ≡ stepTo s [] (x ∷ [])
-    unfolding serverEffectIn serverEffect replyEffect givesText stored
-    server-passes p =
-        let e : serverEffectIn f s x ≡ serverEffectOf Gives.Octet (at Place.Passing 0) 0 (s .control .unfinished) =
-        ap (λ (d : Direction). serverEffect f (s .control .unfinished) (headOf (s .kinds) (s .control .owed)) d
-        (s .reply) x) p in
-        server-step Gives.Octet (at Place.Passing 0) e
-        (subst (λ (d : Direction). Settled (withReply s d (s .reply))) p settled)
-        ∙ (λ i. stepTo (withReply s (sym p i) (s .reply)) [] (x ∷ []))
+  server-gives : Settled s → (p : Place) → s .control .server ≡ at p 0
+      → serverEffectIn f s x ≡ serverEffectOf Gives.Octet (at p 0) 0 (s .control .unfinished)
+      → octetStep f server s x ≡ stepTo s [] (x ∷ [])
+  unfolding givesText stored
+  server-gives settled p place e =
+      server-step Gives.Octet (at p 0) e (subst (λ (d : Direction). Settled (withReply s d (s .reply))) place settled)
+      ∙ (λ i. stepTo (withReply s (sym place i) (s .reply)) [] (x ∷ []))
 
-    pub server-flows : s .control .server ≡ at Place.Flowing 0 → eqb x lf ≡ false
-        → octetStep f server s x ≡ stepTo s [] (x ∷ [])
-    unfolding serverEffectIn serverEffect replyEffect givesText stored
-    server-flows p n =
-        let e : serverEffectIn f s x ≡ serverEffectOf Gives.Octet (at Place.Flowing 0) 0 (s .control .unfinished) =
-        (λ i. replyEffect f (s .control .unfinished) (headOf (s .kinds) (s .control .owed)) (p i .place) (p i .held)
-        (s .reply) (n i)) in
-        server-step Gives.Octet (at Place.Flowing 0) e
-        (subst (λ (d : Direction). Settled (withReply s d (s .reply))) p settled)
-        ∙ (λ i. stepTo (withReply s (sym p i) (s .reply)) [] (x ∷ []))
+-- ---- of either side
 
-    pub server-holds : s .control .server .place ≡ Place.Holding → eqb x lf ≡ false
-        → s .control .server .held + 1 < judged
-        → octetStep f server s x ≡ stepTo
-        (withReply s (at Place.Holding (s .control .server .held + 1))
-        (set (s .reply) (s .control .server .held) x)) [] []
-    unfolding serverEffectIn serverEffect replyEffect replyOctet givesText stored
-    server-holds p n h =
-        let k = s .control .server .held in
-        let d = at Place.Holding (k + 1) in
-        let e : serverEffectIn f s x ≡ serverEffectOf Gives.Held d 0 (s .control .unfinished) =
-        (λ i. replyEffect f (s .control .unfinished) (headOf (s .kinds) (s .control .owed)) (p i) k (s .reply) (n i))
-        ∙ choose-true _ _ (lt-ltb (k + 1) judged h) in
-        server-step Gives.Held d e (server-kept s settled p (k + 1) (set (s .reply) k x))
+pub holding-kept : (d : Side) (s : State) (k n : ℕ) (line line′ : List ℕ) → Settled (holding d s k line) → Settled (holding d s n line′)
+holding-kept client s k n line line′ settled = client-kept (holding client s k line) settled (at Place.Holding n) line′
+holding-kept server s k n line line′ settled = server-kept (holding server s k line) settled refl n line′
+
+module _ (f : Fixed) (s : State) (x : ℕ) where
+  pub octet-passes : (d : Side) → Settled s → directionOf d (s .control) ≡ at Place.Passing 0
+      → octetStep f d s x ≡ stepTo s (toServerOf d (x ∷ [])) (toClientOf d (x ∷ []))
+  unfolding clientEffectIn clientEffect placeEffect serverEffectIn serverEffect replyEffect
+  octet-passes client settled p =
+      client-gives f s x settled Place.Passing p
+      (ap (λ (e : Direction). clientEffect f (s .control .switches) e (s .command) x) p)
+  octet-passes server settled p =
+      server-gives f s x settled Place.Passing p
+      (ap (λ (e : Direction). serverEffect f (s .control .unfinished) (headOf (s .kinds) (s .control .owed)) e (s .reply) x) p)
+
+  pub octet-flows : (d : Side) → Settled s → directionOf d (s .control) ≡ at Place.Flowing 0 → eqb x lf ≡ false
+      → octetStep f d s x ≡ stepTo s (toServerOf d (x ∷ [])) (toClientOf d (x ∷ []))
+  unfolding clientEffectIn clientEffect placeEffect serverEffectIn serverEffect replyEffect
+  octet-flows client settled p n =
+      client-gives f s x settled Place.Flowing p
+      (λ i. placeEffect f (s .control .switches) (p i .place) (p i .held) (take (p i .held) (s .command)) (n i))
+  octet-flows server settled p n =
+      server-gives f s x settled Place.Flowing p
+      (λ i. replyEffect f (s .control .unfinished) (headOf (s .kinds) (s .control .owed)) (p i .place) (p i .held) (s .reply) (n i))
+
+  pub octet-held : (d : Side) (k : ℕ) (line : List ℕ) → Settled (holding d s k line) → eqb x lf ≡ false → k + 1 < judged
+      → octetStep f d (holding d s k line) x ≡ stepTo (holding d s (k + 1) (set line k x)) [] []
+  unfolding clientEffectIn clientEffect placeEffect joinEffect serverEffectIn serverEffect replyEffect replyOctet givesText stored
+  octet-held client k line settled n h =
+      client-step f (holding client s k line) x Gives.Held (at Place.Holding (k + 1))
+      (ap (placeEffect f (s .control .switches) Place.Holding k (take k line)) n ∙ choose-true _ _ (lt-ltb (k + 1) judged h))
+      (holding-kept client s k (k + 1) line (set line k x) settled)
+  octet-held server k line settled n h =
+      server-step f (holding server s k line) x Gives.Held (at Place.Holding (k + 1))
+      (ap (replyEffect f (s .control .unfinished) (headOf (s .kinds) (s .control .owed)) Place.Holding k line) n
+      ∙ choose-true _ _ (lt-ltb (k + 1) judged h))
+      (holding-kept server s k (k + 1) line (set line k x) settled)

@@ -1,8 +1,10 @@
 -- What a run of octets makes of a state, and what was taken before the rest.
 use mathlib.Core.List.{List, [], _++_}
 use mathlib.Core.Path.{_≡_}
+use mathlib.Core.Bool.{true}
 use Prim.Native.Nat.{ℕ, _+_, _-_, _≤_}
-use lib.ListN.{length, drop}
+use lib.ListN.{length, take, drop}
+use Rattle.rules.specs.Octets.{lf, every, isNot}
 use Rattle.rules.specs.Answers.{Side, client, server}
 use Rattle.output.specs.Buffer.{putAt}
 use Rattle.places.specs.declared.Place.{Place}
@@ -11,7 +13,7 @@ use Rattle.records.specs.Sound.{directionOf, Counted}
 use Rattle.places.specs.Places.{at}
 use Rattle.rules.specs.declared.Fixed.{Fixed}
 use Rattle.steps.specs.Steps.{State}
-use Rattle.steps.specs.declared.Written.{Written}
+use Rattle.arrivals.specs.declared.running.DirectionRun.{DirectionRun}
 use Rattle.records.specs.declared.Control.{Control}
 use Rattle.records.specs.Controls.{withClient, withServer}
 use Rattle.steps.specs.Settled.{Settled}
@@ -37,7 +39,7 @@ abbrev pub lineOf : Side → State → List ℕ
 lineOf client s = s .command
 lineOf server s = s .reply
 
--- a state with another direction and array of the client's, or of the server's
+-- a state with another direction and array of the client's
 abbrev pub withCommand : State → Direction → List ℕ → State
 withCommand s d line = stateFrom (withClient (s .control) (s .control .switches) d (s .control .owed)) line (s .reply) (s .kinds)
 
@@ -45,10 +47,14 @@ withCommand s d line = stateFrom (withClient (s .control) (s .control .switches)
 abbrev pub withReply : State → Direction → List ℕ → State
 withReply s d line = stateFrom (withServer (s .control) d (s .control .owed) (s .control .unfinished)) (s .command) line (s .kinds)
 
+-- a state with another direction and array of a side's
+abbrev pub withLine : Side → State → Direction → List ℕ → State
+withLine client s d line = withCommand s d line
+withLine server s d line = withReply s d line
+
 -- a state in which a side holds the first n octets of an array
 abbrev pub holding : Side → State → ℕ → List ℕ → State
-holding client s n line = withCommand s (at Place.Holding n) line
-holding server s n line = withReply s (at Place.Holding n) line
+holding d s n line = withLine d s (at Place.Holding n) line
 
 -- a state in which a side holds xs behind what it held
 abbrev pub holdsMore : Side → State → List ℕ → State
@@ -77,18 +83,22 @@ pub record Ran (f : Fixed) (d : Side) (l : List ℕ) (k : Core) (i : ℕ) (k′ 
 abbrev pub Quiet : Control → List ℕ → Type 0
 Quiet c kinds = (command reply : List ℕ) → Settled (stateFrom c command reply kinds)
 
--- a run of the client's octets, which leaves the server's array and the client's buffer alone; and of the server's
-abbrev pub ClientRan : List ℕ → List ℕ → ℕ → Control → List ℕ → List ℕ → Written → Control → List ℕ → List ℕ
-    → Written → ℕ → Type 0
-ClientRan kinds l i c command out w c′ command′ out′ w′ j =
-    (f : Fixed) (reply toClient : List ℕ) → w .client ≤ length toClient
-    → Ran f client l (coreFrom (stateFrom c command reply kinds) out toClient w) i
-    (coreFrom (stateFrom c′ command′ reply kinds) out′ toClient w′) j
+-- octets that a direction gives on as they come: none; any where octets pass; those without LF of a line that flows
+pub data GivesOn (d : Direction) (xs : List ℕ) : Type 0 where
+  givesNothing : xs ≡ [] → GivesOn d xs
+  givesPassing : d ≡ at Place.Passing 0 → GivesOn d xs
+  givesFlowing : d ≡ at Place.Flowing 0 → every (isNot lf) xs ≡ true → GivesOn d xs
 
--- a run of the server's octets, which leaves the client's array and the server's buffer alone
-abbrev pub ServerRan : List ℕ → List ℕ → ℕ → Control → List ℕ → List ℕ → Written → Control → List ℕ → List ℕ
-    → Written → ℕ → Type 0
-ServerRan kinds l i c reply out w c′ reply′ out′ w′ j =
-    (f : Fixed) (command toServer : List ℕ) → w .server ≤ length toServer
-    → Ran f server l (coreFrom (stateFrom c command reply kinds) toServer out w) i
-    (coreFrom (stateFrom c′ command reply′ kinds) toServer out′ w′) j
+-- what the octets xs do in one direction: they go behind the n octets of its buffer, or behind those of a line that it holds
+pub data Moved (xs : List ℕ) (d : Direction) (line out : List ℕ) (n : ℕ) (d′ : Direction) (line′ out′ : List ℕ) (n′ : ℕ) : Type 0 where
+  movedOn : GivesOn d xs → n + length xs ≤ length out → d′ ≡ d → line′ ≡ line → out′ ≡ putAt out n xs → n′ ≡ n + length xs
+      → Moved xs d line out n d′ line′ out′ n′
+  movedBehind : d .place ≡ Place.Holding → every (isNot lf) xs ≡ true → d .held + length xs ≤ length line
+      → d′ ≡ at Place.Holding (d .held + length xs) → line′ ≡ putAt line (d .held) xs → out′ ≡ out → n′ ≡ n
+      → Moved xs d line out n d′ line′ out′ n′
+
+-- a run of the octets of l from i on, of a direction that stands at d, holds them in line and gives them on into out
+pub record DirectionRan (l : List ℕ) (i : ℕ) (d : Direction) (line out : List ℕ) (n : ℕ) (r : DirectionRun) (line′ out′ : List ℕ) : Type 0 where
+  pub forward : i ≤ r .taken
+  pub inside : r .taken ≤ length l
+  pub moved : Moved (take (r .taken - i) (drop i l)) d line out n (r .direction) line′ out′ (r .at)
