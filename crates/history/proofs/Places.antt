@@ -44,7 +44,6 @@ use Rattle.replies.proofs.Flowing.{flowing as by-first-four}
 use Rattle.places.specs.declared.Place.{Place}
 use Rattle.gives.specs.declared.Gives.{Gives}
 use Rattle.queue.specs.declared.Owes.{Owes}
-use Rattle.queue.specs.Heads.{firstOf}
 use Rattle.upstream.specs.declared.ClientEffect.{ClientEffect}
 use Rattle.downstream.specs.declared.ServerEffect.{ServerEffect}
 use Rattle.gives.specs.Text.{givesText}
@@ -64,7 +63,7 @@ use Rattle.history.proofs.ByOctets.{
   finished-whole,
   finished-long,
 }
-use Rattle.history.proofs.Queue.{owesList, removes-drop}
+use Rattle.history.proofs.Queue.{firstOf, owesList, removes-drop}
 
 -- ---- the relation
 

@@ -26,7 +26,6 @@ use Rattle.queue.specs.Kinds.{
   answersAtHead,
   shifted,
 }
-use Rattle.queue.specs.Heads.{firstOf}
 use Rattle.downstream.specs.Downstream.{kindRemoved, headRemoved, lineRemoves}
 use Rattle.queue.proofs.Listed.{Listed, pushed-front, listed-push, shifted-queue, listed-leave}
 use Rattle.steps.specs.Steps.{owedThen}
@@ -100,6 +99,11 @@ queue-leave {kinds} {owed} {ks} q m =
     }
 
 -- ---- the first kind, and what a server line removes
+
+-- the kind that comes first
+abbrev pub firstOf : List Kind → Owes
+firstOf [] = Owes.Nothing
+firstOf (k ∷ ks) = Owes.One k
 
 head-first : (kinds : List ℕ) (owed : ℕ) → owed ≤ length kinds → headOf kinds owed ≡ firstOf (queueOf kinds owed)
 unfolding headOf queueOf choose

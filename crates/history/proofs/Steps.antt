@@ -28,7 +28,6 @@ use Rattle.queue.specs.declared.Owes.{Owes}
 use Rattle.upstream.specs.declared.ClientEffect.{ClientEffect}
 use Rattle.downstream.specs.declared.ServerEffect.{ServerEffect}
 use Rattle.queue.specs.Kinds.{headOf}
-use Rattle.queue.specs.Heads.{firstOf}
 use Rattle.upstream.specs.Upstream.{clientEffect}
 use Rattle.downstream.specs.Downstream.{serverEffect}
 use Rattle.rules.specs.declared.Fixed.{Fixed}
@@ -39,7 +38,7 @@ use Rattle.session.specs.Calls.{endStep}
 use Rattle.steps.proofs.Stops.{stop-none, unless-stopped}
 use Rattle.steps.proofs.Turns.{place-owed}
 use Rattle.history.specs.ByOctets.{Client, clientGives}
-use Rattle.history.proofs.Queue.{Queue, RoomFor, queue-push, queue-first}
+use Rattle.history.proofs.Queue.{firstOf, Queue, RoomFor, queue-push, queue-first}
 use Rattle.history.proofs.Places.{
   Stands,
   ended,

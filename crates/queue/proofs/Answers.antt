@@ -1,19 +1,21 @@
 -- The queue from a number on: what stands there, and what one own answer at its head adds to the answers behind it.
-use mathlib.Core.Path.{_≡_, refl, sym, ap, _∙_}
+use mathlib.Core.Path.{_≡_, refl, ap, subst, _∙_}
 use mathlib.Core.List.{List, [], _∷_, _++_, map}
 use Prim.Native.Nat.{ℕ, suc, _+_, _≤_, _<_}
 use native.Mathlib.Omega.{arith}
 use lib.ListN.{length, take, drop, getD, length-append, length-map, length-take, drop-of-length-le, List·getD-map}
 use lib.Seq.{drop-cons, drop-drop, getD-take}
-use Rattle.rules.specs.Replies.{headAnswers, answerLine}
+use types.Run.{OneOf, miss}
+use denote.Enum.Declared.{tagOf}
+use Rattle.queue.proofs.Next.{the-type}
+use Rattle.rules.specs.Replies.{headAnswers, answerLine, authAtHead}
 use Rattle.rules.specs.declared.Kind.{Kind}
 use Rattle.rules.specs.declared.OwnAnswer.{OwnAnswer}
 use Rattle.rules.specs.Answers.{longestAnswer}
 use Rattle.own.proofs.Lengths.{answer-most}
 use Rattle.queue.specs.Kinds.{kindOf, queueOf, answersAtHead}
-use Rattle.queue.specs.declared.Owes.{Owes}
-use Rattle.queue.specs.declared.NextAnswer.{NextAnswer}
-use Rattle.queue.specs.Heads.{firstOf, answerOf, answerFirst}
+use Rattle.queue.specs.declared.Next.{Next}
+use Rattle.queue.specs.Heads.{nextFirst, nextIsAuth}
 
 module _ (kinds : List ℕ) (i owed : ℕ) where
   -- behind the last kind owed, and behind the last one that there is room for, there is none
@@ -32,22 +34,6 @@ module _ (kinds : List ℕ) (i owed : ℕ) where
       let within : i < length (map kindOf (take owed kinds)) = simp (length-map, length-take) (omega arith) in
       drop-cons (map kindOf (take owed kinds)) i (kindOf 0) within
       ∙ rw (List·getD-map kindOf (take owed kinds) i 0, getD-take owed kinds i 0 h)
-
-by-none : (ks : List Kind) {o : Owes} → o ≡ firstOf ks → o ≡ Owes.Nothing → [] ≡ ks
-by-none [] e n = refl
-by-none (k ∷ ks) e n = let z : _≡_ {A = ℕ} 0 1 = cc in absurd (omega arith)
-
-by-one : (ks : List Kind) {o : Owes} {k j : Kind} → o ≡ firstOf ks → o ≡ Owes.One k → k ≡ j → j ∷ drop 1 ks ≡ ks
-by-one [] e n h = let z : _≡_ {A = ℕ} 0 1 = cc in absurd (omega arith)
-by-one (i ∷ ks) {o} {k} {j} e n h = let same : j ≡ i = cc in ap (λ (x : Kind). x ∷ ks) same
-
--- what is read off a queue from number i on, by the kind that is read there
-module _ (kinds : List ℕ) (i owed : ℕ) {B : Type 0} (f : List Kind → B) {o : Owes} (e : o ≡ firstOf (drop i (queueOf kinds owed))) where
-  pub at-none : o ≡ Owes.Nothing → f [] ≡ f (drop i (queueOf kinds owed))
-  at-none n = ap f (by-none (drop i (queueOf kinds owed)) e n)
-
-  pub at-first : {k j : Kind} → o ≡ Owes.One k → k ≡ j → f (j ∷ drop 1 (drop i (queueOf kinds owed))) ≡ f (drop i (queueOf kinds owed))
-  at-first n h = ap f (by-one (drop i (queueOf kinds owed)) e n h)
 
 -- the queue has no more kinds than are owed
 pub length-queue : (kinds : List ℕ) (owed : ℕ) → length (queueOf kinds owed) ≤ owed
@@ -87,16 +73,25 @@ pub none-at-end : (ks : List Kind) → ks ≡ [] → NoAnswer ks
 unfolding answersAtHead headAnswers
 none-at-end ks e = record { count = ap answersAtHead e; text = ap headAnswers e }
 
-pub stops : (ks : List Kind) {n : NextAnswer} → n ≡ answerFirst ks → n ≡ NextAnswer.Nothing → NoAnswer ks
-unfolding answerOf answerFirst answersAtHead headAnswers
+-- what comes first is AUTH, or something else that is no own answer
+pub stops : (ks : List Kind) {n : Next} → n ≡ nextFirst ks → OneOf (1 ∷ 2 ∷ []) (tagOf the-type n) → NoAnswer ks
+unfolding nextFirst answersAtHead headAnswers
 stops [] e f = record { count = refl; text = refl }
 stops (Kind.Plain ∷ ks) e f = record { count = refl; text = refl }
 stops (Kind.TranslatedEpsv ∷ ks) e f = record { count = refl; text = refl }
-stops (Kind.Own a ∷ ks) e f = let z : _≡_ {A = ℕ} 0 1 = cc in absurd (omega arith)
+stops (Kind.Own a ∷ ks) e f = absurd (miss (1 ∷ 2 ∷ []) 0 tt (subst (λ (m : Next). OneOf (1 ∷ 2 ∷ []) (tagOf the-type m)) e f))
 stops (Kind.Auth ∷ ks) e f = record { count = refl; text = refl }
 
-first-answer : (a : OwnAnswer) (ks : List Kind) {n : NextAnswer} → n ≡ answerFirst ks → n ≡ NextAnswer.Answer a → OneAnswer a ks (drop 1 ks)
-unfolding answerOf answerFirst answersAtHead headAnswers
+pub auth-next : (ks : List Kind) {n : Next} → n ≡ nextFirst ks → nextIsAuth n ≡ authAtHead ks
+unfolding nextFirst authAtHead
+auth-next [] e = ap nextIsAuth e
+auth-next (Kind.Plain ∷ ks) e = ap nextIsAuth e
+auth-next (Kind.TranslatedEpsv ∷ ks) e = ap nextIsAuth e
+auth-next (Kind.Own a ∷ ks) e = ap nextIsAuth e
+auth-next (Kind.Auth ∷ ks) e = ap nextIsAuth e
+
+first-answer : (a : OwnAnswer) (ks : List Kind) {n : Next} → n ≡ nextFirst ks → n ≡ Next.Answer a → OneAnswer a ks (drop 1 ks)
+unfolding nextFirst answersAtHead headAnswers
 first-answer a [] e f = let z : _≡_ {A = ℕ} 0 1 = cc in absurd (omega arith)
 first-answer a (Kind.Plain ∷ ks) e f = let z : _≡_ {A = ℕ} 0 1 = cc in absurd (omega arith)
 first-answer a (Kind.TranslatedEpsv ∷ ks) e f = let z : _≡_ {A = ℕ} 0 1 = cc in absurd (omega arith)
@@ -112,6 +107,6 @@ first-answer a (Kind.Own b ∷ ks) e f =
 first-answer a (Kind.Auth ∷ ks) e f = let z : _≡_ {A = ℕ} 0 1 = cc in absurd (omega arith)
 
 -- the own answer at number i of a queue, and those from the next number on
-pub goes-on : (ks : List Kind) (i : ℕ) (a : OwnAnswer) {n : NextAnswer} → n ≡ answerFirst (drop i ks) → n ≡ NextAnswer.Answer a
+pub goes-on : (ks : List Kind) (i : ℕ) (a : OwnAnswer) {n : Next} → n ≡ nextFirst (drop i ks) → n ≡ Next.Answer a
     → OneAnswer a (drop i ks) (drop (i + 1) ks)
 goes-on ks i a e f = rw drop-drop at (first-answer a (drop i ks) e f)

@@ -1,32 +1,32 @@
 -- What comes first in a queue, and what leaves it.
-use mathlib.Core.Bool.{Bool}
+use mathlib.Core.Bool.{Bool, true, false}
 use mathlib.Core.List.{List, [], _∷_}
 use Prim.Native.Nat.{ℕ, _+_}
 use lib.ListN.{length, drop}
 use Rattle.rules.specs.Octets.{choose}
 use Rattle.rules.specs.Replies.{headAnswers, authAtHead}
 use Rattle.rules.specs.declared.Kind.{Kind}
-use Rattle.queue.specs.declared.Owes.{Owes}
-use Rattle.queue.specs.declared.NextAnswer.{NextAnswer}
+use Rattle.queue.specs.declared.Next.{Next}
 use Rattle.queue.specs.declared.Plan.{Plan}
 use Rattle.queue.specs.Kinds.{answersAtHead}
 
--- the kind that comes first
-abbrev pub firstOf : List Kind → Owes
-firstOf [] = Owes.Nothing
-firstOf (k ∷ ks) = Owes.One k
+-- what a kind is where it comes next: an own answer, AUTH, or neither
+abbrev pub nextOf : Kind → Next
+nextOf Kind.Plain = Next.Other
+nextOf Kind.TranslatedEpsv = Next.Other
+nextOf (Kind.Own a) = Next.Answer a
+nextOf Kind.Auth = Next.Auth
 
--- a kind as an own answer, if it is one
-unfoldable pub answerOf : Kind → NextAnswer
-answerOf Kind.Plain = NextAnswer.Nothing
-answerOf Kind.TranslatedEpsv = NextAnswer.Nothing
-answerOf (Kind.Own a) = NextAnswer.Answer a
-answerOf Kind.Auth = NextAnswer.Nothing
+-- what comes first in a queue
+unfoldable pub nextFirst : List Kind → Next
+nextFirst [] = Next.Other
+nextFirst (k ∷ ks) = nextOf k
 
--- the own answer that comes first
-unfoldable pub answerFirst : List Kind → NextAnswer
-answerFirst [] = NextAnswer.Nothing
-answerFirst (k ∷ ks) = answerOf k
+-- it is AUTH
+abbrev pub nextIsAuth : Next → Bool
+nextIsAuth (Next.Answer a) = false
+nextIsAuth Next.Auth = true
+nextIsAuth Next.Other = false
 
 -- ---- own answers and the AUTH step, where `blocked` answers have to wait
 

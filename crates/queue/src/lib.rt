@@ -8,7 +8,7 @@ ghost use Rattle.rules.specs.Answers.{mostAnswers, mostOwed};
 ghost use Rattle.output.specs.Buffer.{Put, putAt};
 ghost use Rattle.queue.specs.Kinds.{answerCode, codeOf, stateKind, kindOf, queueOf, headOf, answersAtHead};
 ghost use Rattle.queue.specs.Kinds.{pushed, shiftedIn, isStill};
-ghost use Rattle.queue.specs.Heads.{firstOf, answerFirst, planOf};
+ghost use Rattle.queue.specs.Heads.{nextOf, nextFirst, nextIsAuth, planOf};
 use output::put;
 use own::answer_length;
 use own::put_answer;
@@ -89,10 +89,11 @@ fn state_kind(epsv: bool, eprt: bool) -> Kind
     Kind::Own(OwnAnswer::State(Switches { epsv, eprt }))
 }
 
-// How far the own answers at the head of a queue reach, and how many octets they have in all.
+// How far the own answers at the head of a queue reach, how many octets they have in all, and whether AUTH follows.
 struct AnswersDue {
     until: usize,
     length: usize,
+    auth: bool,
 }
 
 // How the queue will settle: how many kinds leave it, how long their answers are, and whether AUTH is first then.
@@ -102,10 +103,11 @@ pub struct Plan {
     pub auth: bool,
 }
 
-// An own answer that comes next, or none.
-enum NextAnswer {
+// What comes next: an own answer, AUTH, or neither.
+enum Next {
     Answer(OwnAnswer),
-    Nothing,
+    Auth,
+    Other,
 }
 
 // The first kind owed.
@@ -118,32 +120,38 @@ pub fn first_owed(kinds: Kinds, owed: usize) -> Owes
     Owes::One(kind_of(kinds[0]))
 }
 
-// The kind that is number `i` of the kinds owed.
-fn kind_at(kinds: Kinds, i: usize, owed: usize) -> Owes
-    ensures { λ r. ⌜ r ≡ firstOf (drop i (queueOf kinds owed)) ⌝ }
+// What a kind is, where it comes next.
+fn next_of(kind: Kind) -> Next
+    ensures { λ r. ⌜ r ≡ nextOf kind ⌝ }
 {
-    if owed <= i {
-        return Owes::Nothing;
+    match kind {
+        Kind::Own(answer) => Next::Answer(answer),
+        Kind::Auth => Next::Auth,
+        Kind::Plain => Next::Other,
+        Kind::TranslatedEpsv => Next::Other,
     }
-    if OWED <= i {
-        return Owes::Nothing;
-    }
-    Owes::One(kind_of(kinds[i]))
 }
 
-// The own answer that is number `i` of the kinds owed.
-fn answer_at(kinds: Kinds, i: usize, owed: usize) -> NextAnswer
-    ensures { λ r. ⌜ r ≡ answerFirst (drop i (queueOf kinds owed)) ⌝ }
+// What is number `i` of the kinds owed.
+fn next_at(kinds: Kinds, i: usize, owed: usize) -> Next
+    ensures { λ r. ⌜ r ≡ nextFirst (drop i (queueOf kinds owed)) ⌝ }
 {
-    let first = kind_at(kinds, i, owed);
-    let Owes::One(kind) = first else {
-        return NextAnswer::Nothing;
-    };
-    match kind {
-        Kind::Own(answer) => NextAnswer::Answer(answer),
-        Kind::Plain => NextAnswer::Nothing,
-        Kind::TranslatedEpsv => NextAnswer::Nothing,
-        Kind::Auth => NextAnswer::Nothing,
+    if owed <= i {
+        return Next::Other;
+    }
+    if OWED <= i {
+        return Next::Other;
+    }
+    next_of(kind_of(kinds[i]))
+}
+
+fn is_auth(next: Next) -> bool
+    ensures { λ r. ⌜ r ≡ nextIsAuth next ⌝ }
+{
+    match next {
+        Next::Auth => true,
+        Next::Answer(_) => false,
+        Next::Other => false,
     }
 }
 
@@ -152,16 +160,18 @@ fn due(kinds: Kinds, from: usize, owed: usize) -> AnswersDue
     ensures result { λ r.
         let rest = drop from (queueOf kinds owed) in
         ⌜ (r .until ≡ from + answersAtHead rest) × (r .length ≡ length (headAnswers rest)) ⌝ }
+    ensures after { λ r. ⌜ r .auth ≡ authAtHead (drop (r .until) (queueOf kinds owed)) ⌝ }
     ensures most { λ r. ⌜ r .length ≤ mostAnswers ⌝ }
 {
     let mut until = from;
     let mut octets = 0;
     while until < OWED {
-        let next = answer_at(kinds, until, owed);
-        let NextAnswer::Answer(answer) = next else {
+        let next = next_at(kinds, until, owed);
+        let Next::Answer(answer) = next else {
             return AnswersDue {
                 until,
                 length: octets,
+                auth: is_auth(next),
             };
         };
         octets += answer_length(answer);
@@ -170,6 +180,7 @@ fn due(kinds: Kinds, from: usize, owed: usize) -> AnswersDue
     AnswersDue {
         until,
         length: octets,
+        auth: false,
     }
 }
 
@@ -189,8 +200,8 @@ pub fn put_answers(out: &mut [u8], at: usize, kinds: Kinds, from: usize, owed: u
     let mut place = at;
     let mut i = from;
     while i < OWED {
-        let next = answer_at(kinds, i, owed);
-        let NextAnswer::Answer(answer) = next else {
+        let next = next_at(kinds, i, owed);
+        let Next::Answer(answer) = next else {
             return place;
         };
         place = put_answer(out, place, answer);
@@ -212,22 +223,6 @@ pub fn push(kinds: Kinds, owed: usize, owes: Owes) -> Kinds
     let mut longer = kinds;
     longer[owed] = code_of(kind);
     longer
-}
-
-// AUTH comes first among the kinds owed from number `from` on.
-fn auth_at(kinds: Kinds, from: usize, owed: usize) -> bool
-    ensures { λ r. ⌜ r ≡ authAtHead (drop from (queueOf kinds owed)) ⌝ }
-{
-    let first = kind_at(kinds, from, owed);
-    let Owes::One(kind) = first else {
-        return false;
-    };
-    match kind {
-        Kind::Auth => true,
-        Kind::Plain => false,
-        Kind::TranslatedEpsv => false,
-        Kind::Own(_) => false,
-    }
 }
 
 // Behind the first `from` kinds none is owed, or the first one's number is that of a plain reply or a translated
@@ -260,15 +255,14 @@ pub fn planned(kinds: Kinds, from: usize, owed: usize, blocked: bool) -> Plan
         return Plan {
             leaving: from,
             answers: 0,
-            auth: auth_at(kinds, from, owed),
+            auth: is_auth(next_at(kinds, from, owed)),
         };
     }
     let d = due(kinds, from, owed);
-    let until = d.until;
     Plan {
-        leaving: until,
+        leaving: d.until,
         answers: d.length,
-        auth: auth_at(kinds, until, owed),
+        auth: d.auth,
     }
 }
 

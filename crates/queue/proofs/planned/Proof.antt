@@ -3,6 +3,7 @@ use mathlib.Core.Path.{sym, _∙_}
 use native.Mathlib.Omega.{arith}
 use borrow.Author.Needs.{needs}
 use Rattle.queue.specs.Kinds.{queueOf}
+use Rattle.queue.proofs.Answers.{auth-next}
 use Rattle.queue.proofs.Plans.{plan-waits, plan-goes, plan-still}
 use Rattle.queue.proofs.Still.{still-answers, still-auth}
 use Rattle.queue.proofs.planned.Statement.{statement}
@@ -19,14 +20,15 @@ returns c =
 
 returns-2 : tie.Need-returns-2
 returns-2 c =
-    let a = c .before .before .before .before .before .args in
-    (plan-waits (queueOf (a .t1) (a .owed)) (a .from) (c .before .if2 .taken) (c .auth-at .ensures), omega arith)
+    let a = c .before .before .before .before .before .before .args in
+    let auth = c .is-auth .ensures ∙ auth-next _ (c .before .next-at .ensures) in
+    (plan-waits (queueOf (a .t1) (a .owed)) (a .from) (c .before .before .if2 .taken) auth, omega arith)
 
 returns-3 : tie.Need-returns-3
 returns-3 c =
-    let a = c .before .before .before .before .before .before .args in
-    let d = c .before .due .ensures in
-    (plan-goes (queueOf (a .t1) (a .owed)) (a .from) (c .before .before .if2 .left) (d .0 .0) (d .0 .1) (c .auth-at2 .ensures), d .1)
+    let a = c .before .before .before .before .before .args in
+    let d = c .due .ensures in
+    (plan-goes (queueOf (a .t1) (a .owed)) (a .from) (c .before .if2 .left) (d .0 .0) (d .0 .1) (d .1 .0), d .1 .1)
 
 pub planned-spec : {M : Type 1} → statement M
 planned-spec =
@@ -36,7 +38,7 @@ planned-spec =
     (λ c κs. search needs)
     returns
     (λ c κs. search needs)
-    returns-2
     (λ c κs. search needs)
+    returns-2
     (λ c κs. search needs)
     returns-3)

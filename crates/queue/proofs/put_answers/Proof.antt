@@ -50,29 +50,17 @@ loop-holds c =
     let a = c .before .before .before .before .before .args in
     at-start (a .out .now) (a .at) (headAnswers (drop (a .from) (queueOf (a .kinds) (a .owed)))) (all-fits c)
 
-answer-at-requires : tie.Need-answer-at-requires Inv-loop μ-loop
-answer-at-requires c κs = search needs
-
-enum-known-next : tie.Need-enum-known-next Inv-loop μ-loop
-enum-known-next c = search needs
-
-enum-told : tie.Need-enum-told Inv-loop μ-loop
-enum-told c = search needs
-
 same-length : tie.Need-same-length Inv-loop μ-loop
-same-length c = c .before .before .before .before .loop .inv .size
+same-length c = c .before .before .before .loop .inv .size
 
 returns-3 : tie.Need-returns-3 Inv-loop μ-loop
 returns-3 c =
-    let at-loop = c .before .before .before .before in
+    let at-loop = c .before .before .before in
     let a = at-loop .before .before .before .before .before .before .args in
     let l = at-loop .loop in
     let q = queueOf (a .kinds) (a .owed) in
-    let s = stops (drop (l .i) q) (c .before .before .answer-at .ensures) (c .enum-told .given .1) in
+    let s = stops (drop (l .i) q) (c .before .next-at .ensures) (c .match .keys2) in
     at-end (a .out .now) (a .at) (headAnswers (drop (a .from) q)) (l .out) (l .place) (headAnswers (drop (l .i) q)) (all-fits (at-loop .before)) (l .inv) (s .text)
-
-put-answer-requires : tie.Need-put-answer-requires Inv-loop μ-loop
-put-answer-requires c κs = search needs
 
 add-i : tie.Need-add-i Inv-loop μ-loop
 add-i c = omega arith
@@ -88,7 +76,7 @@ loop-again c =
     let a = at-loop .before .before .before .before .before .before .args in
     let l = at-loop .loop in
     let q = queueOf (a .kinds) (a .owed) in
-    let t = goes-on q (l .i) _ (known .before .before .answer-at .ensures) (known .next .given .1) in
+    let t = goes-on q (l .i) _ (known .before .before .next-at .ensures) (known .next .given .1) in
     next-part (a .out .now) (a .at) (headAnswers (drop (a .from) q)) (l .out) (l .place) (headAnswers (drop (l .i) q)) _ (headAnswers (drop (l .i + 1) q)) (l .inv) (t .text) (put .put-answer .ensures)
 
 same-length-2 : tie.Need-same-length-2 Inv-loop μ-loop
@@ -114,12 +102,11 @@ put-answers-spec =
     sub-if2
     returns-2
     loop-holds
-    answer-at-requires
-    enum-known-next
-    enum-told
+    (λ c κs. search needs)
+    (λ c. search needs)
     same-length
     returns-3
-    put-answer-requires
+    (λ c κs. search needs)
     add-i
     loop-less
     loop-again
