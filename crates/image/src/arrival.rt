@@ -1,15 +1,11 @@
 // An arrival on the record where it lies: marks and numbers are read and written back, and the arrays are used in
 // place.
 ghost use mathlib.Core.Path.{_≡_};
-ghost use mathlib.Core.Option.{none};
-ghost use Rattle.records.specs.Sound.{refusalOf};
-ghost use Rattle.image.specs.Image.{sessionOf};
 ghost use Rattle.image.specs.Lent.{arrivedOn, imageAfter, serverAfter, clientAfter, Tells};
 use crate::control_in;
 use crate::counts_at;
-use crate::is_image;
 use crate::put_back;
-use crate::refusal_in;
+use crate::refusal_at;
 use arrivals::take;
 use records::Refusal;
 use records::layout;
@@ -45,39 +41,9 @@ pub fn arrive_at(
         ⌜ (now («to_server» .exit) ≡ serverAfter o server)
         × (now («to_client» .exit) ≡ clientAfter o client) ⌝ }
 {
-    if 2 <= direction {
-        return nothing_written(Answer::UnknownDirection);
-    }
-    if !is_image(image) {
-        return nothing_written(Answer::BadRecord);
-    }
-    if let Refusal::By(answer) = refusal_in(image, direction) {
+    if let Refusal::By(answer) = refusal_at(image, direction) {
         return nothing_written(answer);
     }
-    take_at(image, direction, octets, to_server, to_client)
-}
-
-// The same where nothing refuses it.
-fn take_at(
-    image: &mut [u8],
-    direction: u8,
-    octets: &[u8],
-    to_server: &mut [u8],
-    to_client: &mut [u8],
-) -> Told
-    requires { ⌜ refusalOf (sessionOf (now image)) direction ≡ none ⌝ }
-    ensures told { λ r.
-        let server = now («to_server» .entry) in
-        let client = now («to_client» .entry) in
-        let o = arrivedOn (now (image .entry)) direction (now (octets .entry)) server client in
-        ⌜ Tells r (o .called) × (now (image .exit) ≡ imageAfter (now (image .entry)) (o .called)) ⌝ }
-    ensures buffers { λ r.
-        let server = now («to_server» .entry) in
-        let client = now («to_client» .entry) in
-        let o = arrivedOn (now (image .entry)) direction (now (octets .entry)) server client in
-        ⌜ (now («to_server» .exit) ≡ serverAfter o server)
-        × (now («to_client» .exit) ≡ clientAfter o client) ⌝ }
-{
     let from_client = direction == 0;
     let supported = image[layout::SUPPORTED] == 1;
     let control = control_in(image);

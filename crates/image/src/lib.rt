@@ -23,6 +23,7 @@ use records::Refusal;
 use records::Session;
 use records::layout;
 use records::refusal_on;
+use rules::Answer;
 use rules::Fixed;
 use rules::Switches;
 use session::held_line;
@@ -261,7 +262,20 @@ fn fields(image: &[u8]) -> Session
     }
 }
 
-// What refuses a call on the record of an image, told from its marks, numbers and kinds alone.
+// What refuses a call on the record of lent memory, which may be no image.
+fn refusal_at(image: &[u8], direction: u8) -> Refusal
+    ensures { λ r. ⌜ r ≡ refusalBy (refusalOf (sessionOf (now (image .entry))) direction) ⌝ }
+{
+    if 2 <= direction {
+        return Refusal::By(Answer::UnknownDirection);
+    }
+    if !is_image(image) {
+        return Refusal::By(Answer::BadRecord);
+    }
+    refusal_in(image, direction)
+}
+
+// The same of an image, told from its marks, numbers and kinds alone.
 fn refusal_in(image: &[u8], direction: u8) -> Refusal
     requires { ⌜ imageSize ≤ length (now image) ⌝ }
     ensures { λ r. ⌜ r ≡ refusalBy (refusalOf (fieldsIn (now (image .entry))) direction) ⌝ }
