@@ -200,10 +200,7 @@ module _ (image octets out other : List ℕ) (d : ℕ) (side : Side) (same : sid
               record { answer = ap (λ (k : Called). k .answer) p; taken = ap (λ (k : Called). k .taken) p; written = ap (λ (k : Called). k .written) p },
               back ∙ (ap (λ (k : Called). putAt image 0 (imageOf (k .session))) p ∙ sym (rw below)),
             ),
-            (
-              promised .1 .0 ∙ ap (λ (k : Called). o .toServer ++ drop (k .written .server) out) p,
-              promised .1 .1 ∙ ap (λ (k : Called). o .toClient ++ drop (k .written .client) other) p,
-            ),
+            promised .1,
           )
 
 -- ---- a refusal

@@ -1,15 +1,15 @@
 -- What an entry does, by its kind, and how much it takes and writes.
 use mathlib.Core.Path.{_≡_, refl, sym, ap, _∙_}
 use mathlib.Core.Bool.{Bool, true, false}
-use mathlib.Core.List.{List, [], _∷_, _++_}
+use mathlib.Core.List.{List, [], _∷_}
 use mathlib.Core.Option.{Option, none, some}
 use Prim.Native.Nat.{ℕ, zero, suc, _+_, _-_, _<_, _≤_}
 use native.Mathlib.Omega.{arith}
 use lib.Dec.{leb}
-use lib.ListN.{length, take, drop, getD}
+use lib.ListN.{length, take, getD}
 use lib.Seq.{take-at}
 use Rattle.rules.specs.Octets.{choose}
-use Rattle.rules.specs.Answers.{Side, sideOf, answerNumber, fits}
+use Rattle.rules.specs.Answers.{Side, client, server, sideOf, answerNumber, fits}
 use Rattle.rules.specs.declared.Answer.{Answer}
 use Rattle.session.specs.declared.Called.{Called}
 use Rattle.rules.specs.declared.Fixed.{Fixed}
@@ -17,7 +17,7 @@ use Rattle.session.specs.declared.Prepared.{Prepared}
 use Rattle.records.specs.declared.Session.{Session}
 use Rattle.steps.specs.Steps.{State, Step, octetStep}
 use Rattle.steps.specs.Takes.{Took, unlessStopped, stopOf, takes}
-use Rattle.session.specs.Calls.{Outcome, preparedFrom, refused, unlessRefused, outcome, stateOf, arrived, endStep, endOutcome, endCalled}
+use Rattle.session.specs.Calls.{Outcome, preparedFrom, refused, unlessRefused, outcome, stateOf, arrived, endStep, endOutcome, bufferAfter, endCalled}
 use Rattle.records.specs.Sound.{refusalOf}
 use Rattle.fields.specs.Report.{Done, outRoom, doneBy, setUp, runEntry}
 use Rattle.report.specs.declared.EntryRan.{EntryRan}
@@ -104,7 +104,7 @@ unfolding ranOf ranBy
 same-ran o n t = rw (← t .server, ← t .client)
 
 pub kept-call : (d : Done) (o : Outcome) (n : ℕ) (out other : List ℕ) {c : Called} {r : EntryRan} {out′ other′ : List ℕ} → Told o n → d ≡ doneBy o → c ≡ o .called → r ≡ ranOf c
-    → out′ ≡ o .toServer ++ drop (c .written .server) out → other′ ≡ o .toClient ++ drop (c .written .client) other → Kept d r out′ other′
+    → out′ ≡ bufferAfter client o out → other′ ≡ bufferAfter server o other → Kept d r out′ other′
 unfolding ranOf
 kept-call d o n out other t e p q w v =
     rw (e, q, w, v, p) (

@@ -1,7 +1,7 @@
 -- What a call promises, from what its parts promise.
 use mathlib.Core.Path.{_≡_, refl, sym, ap, _∙_}
 use mathlib.Core.Bool.{Bool, true, false, and-true}
-use mathlib.Core.List.{List, [], _++_}
+use mathlib.Core.List.{List, _++_}
 use mathlib.Core.Option.{Option, none}
 use Prim.Native.Nat.{ℕ, zero, suc, _≤_, _<_}
 use lib.Dec.{eqb, eqb·suc-zero, leb, leb·zero}
@@ -30,7 +30,7 @@ use Rattle.steps.proofs.Fits.{takes-fit}
 -- a call's result r, and its buffers before and after
 abbrev pub Promised : Outcome → Called → List ℕ → List ℕ → List ℕ → List ℕ → Type 0
 Promised w r out other out′ other′ =
-    (r ≡ w .called) × ((out′ ≡ w .toServer ++ drop (r .written .server) out) × (other′ ≡ w .toClient ++ drop (r .written .client) other))
+    (r ≡ w .called) × ((out′ ≡ bufferAfter client w out) × (other′ ≡ bufferAfter server w other))
 
 -- the counts after a call, from what is added to each
 pub counts-by : (up down : Counts) (d : Side) (n toServer toClient : ℕ) {here there : ℕ} {u v : Counts} → here ≡ takenFor client d n
@@ -61,7 +61,7 @@ advanced s d n toServer toClient t u v = rw (u, v)
 
 promised-refused : (s : Session) (a : Answer) (out other : List ℕ) {r : Called} → r ≡ refused a s .called → Promised (refused a s) r out other out other
 unfolding refused
-promised-refused s a out other e = (e, (rw e, rw e))
+promised-refused s a out other e = (e, (refl, refl))
 
 pub turned-away : (s : Session) (o : Option Answer) (w : Outcome) (a : Answer) (out other : List ℕ) {q : Refusal} {r : Called} → q ≡ refusalBy o
     → q ≡ Refusal.By a → r ≡ refused a s .called → Promised (unlessRefused o s w) r out other out other
@@ -97,8 +97,8 @@ module _ (s : Session) (d : ℕ) (octets out other : List ℕ) (side : Side) (sa
       let size : w ≡ record { server = length (taking .toServer); client = length (taking .toClient) } = ap (λ (x : Core). x .written) k in (
         rw (unrefused, e, p, q, st, size),
         (
-          ap (λ (x : Core). x .serverBuffer) k ∙ rw (unrefused, size) (front-put out (taking .toServer) (fit .server)),
-          ap (λ (x : Core). x .clientBuffer) k ∙ rw (unrefused, size) (front-put other (taking .toClient) (fit .client)),
+          ap (λ (x : Core). x .serverBuffer) k ∙ rw unrefused (front-put out (taking .toServer) (fit .server)),
+          ap (λ (x : Core). x .clientBuffer) k ∙ rw unrefused (front-put other (taking .toClient) (fit .client)),
         ),
       )
 
@@ -167,8 +167,8 @@ module _ (s : Session) (d : ℕ) (out other : List ℕ) (free : refusalOf s d �
   module _ {r : Called} {changed : List ℕ} where
     pub client-ended : d ≡ 0 → Left s client out r changed → Promised (endCalled s d (length out) (length other)) r out other changed other
     unfolding heldEnd
-    client-ended z (e, b) = rw (client-ends z, e) (refl, (b, untouched s _ other .0))
+    client-ended z (e, b) = rw (client-ends z) (e, (b, untouched s _ other .0))
 
     pub server-ended : (d ≡ 0 → ⊥) → Left s server other r changed → Promised (endCalled s d (length out) (length other)) r out other out changed
     unfolding heldEnd
-    server-ended z (e, b) = rw (server-ends z, e) (refl, (untouched s _ out .1, b))
+    server-ended z (e, b) = rw (server-ends z) (e, (untouched s _ out .1, b))

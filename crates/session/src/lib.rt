@@ -1,7 +1,7 @@
 // The session: setup, arrival, end and offsets, for every record and every buffer.
 ghost use mathlib.Core.Path.{_≡_};
 ghost use mathlib.Core.List.{List, _++_};
-ghost use lib.ListN.{length, drop, replicate};
+ghost use lib.ListN.{length, replicate};
 ghost use Prim.Native.Nat.{ℕ};
 ghost use Rattle.rules.specs.Answers.{wrapped, client as clientSide, server as serverSide, mostOwed};
 ghost use Rattle.rules.specs.Lines.{mostHeld};
@@ -179,16 +179,12 @@ pub fn arrive(
         let client = now («to_client» .entry) in
         let o = arrived session direction (now (octets .entry)) (length server) (length client) in
         ⌜ r ≡ o .called ⌝ }
-    ensures server { λ r.
+    ensures buffers { λ r.
         let server = now («to_server» .entry) in
         let client = now («to_client» .entry) in
         let o = arrived session direction (now (octets .entry)) (length server) (length client) in
-        ⌜ now («to_server» .exit) ≡ o .toServer ++ drop (r .written .server) server ⌝ }
-    ensures client { λ r.
-        let server = now («to_server» .entry) in
-        let client = now («to_client» .entry) in
-        let o = arrived session direction (now (octets .entry)) (length server) (length client) in
-        ⌜ now («to_client» .exit) ≡ o .toClient ++ drop (r .written .client) client ⌝ }
+        ⌜ (now («to_server» .exit) ≡ bufferAfter clientSide o server)
+        × (now («to_client» .exit) ≡ bufferAfter serverSide o client) ⌝ }
 {
     if let Refusal::By(answer) = refusal_of(session, direction) {
         return refused(answer, session);
@@ -362,16 +358,12 @@ pub fn end(session: Session, direction: u8, to_server: &mut [u8], to_client: &mu
         let client = now («to_client» .entry) in
         let o = endCalled session direction (length server) (length client) in
         ⌜ r ≡ o .called ⌝ }
-    ensures server { λ r.
+    ensures buffers { λ r.
         let server = now («to_server» .entry) in
         let client = now («to_client» .entry) in
         let o = endCalled session direction (length server) (length client) in
-        ⌜ now («to_server» .exit) ≡ o .toServer ++ drop (r .written .server) server ⌝ }
-    ensures client { λ r.
-        let server = now («to_server» .entry) in
-        let client = now («to_client» .entry) in
-        let o = endCalled session direction (length server) (length client) in
-        ⌜ now («to_client» .exit) ≡ o .toClient ++ drop (r .written .client) client ⌝ }
+        ⌜ (now («to_server» .exit) ≡ bufferAfter clientSide o server)
+        × (now («to_client» .exit) ≡ bufferAfter serverSide o client) ⌝ }
 {
     if let Refusal::By(answer) = refusal_of(session, direction) {
         return refused(answer, session);
