@@ -20,7 +20,8 @@ use Rattle.records.specs.Sound.{refusalOf}
 use Rattle.session.specs.Calls.{Outcome, refused, unlessRefused, arrived, endCalled, offset}
 use Rattle.image.specs.Image.{imageOf, sessionOf}
 use Rattle.image.specs.declared.arrival.Told.{Told}
-use Rattle.image.specs.Lent.{arrivedOn, endedOn, imageAfter, serverAfter, clientAfter, Tells}
+use Rattle.image.specs.Lent.{arrivedOn, endedOn, imageAfter, serverAfter, clientAfter}
+use Rattle.image.proofs.Arrivals.{Left}
 use Rattle.fashlemor.specs.Host.{setupNumber, countsFrom, countsOf, narrow, offsetNumber, offsetAfter}
 
 -- ---- setup
@@ -64,9 +65,9 @@ narrow-small d h = rw (lt-leb 2 d h)
 
 -- where all directions that there are not are alike, narrowing changes nothing
 module _ {A : Type 0} (f : ℕ → A) (unknown : A) (alike : (d : ℕ) → 2 ≤ d → f d ≡ unknown) where
-  pub narrow-same : (d : ℕ) → f (narrow d) ≡ f d
+  narrow-same : (d : ℕ) {n : ℕ} → n ≡ narrow d → f n ≡ f d
   unfolding narrow choose
-  narrow-same d = by-test (leb 2 d) refl
+  narrow-same d e = ap f e ∙ by-test (leb 2 d) refl
     where
       by-test : (b : Bool) → leb 2 d ≡ b → f (choose b 2 d) ≡ f d
       by-test true e = alike 2 (lit≤ tt) ∙ sym (alike d (leb-true 2 d e))
@@ -74,23 +75,23 @@ module _ {A : Type 0} (f : ℕ → A) (unknown : A) (alike : (d : ℕ) → 2 ≤
 
 -- they are, for an arrival, an end and an offset
 module _ (image : List ℕ) where
-  pub narrow-arrived : (d : ℕ) (octets out back : List ℕ) → arrivedOn image (narrow d) octets out back ≡ arrivedOn image d octets out back
+  pub narrow-arrived : (d : ℕ) (octets out back : List ℕ) {n : ℕ} → n ≡ narrow d → arrivedOn image n octets out back ≡ arrivedOn image d octets out back
   unfolding arrivedOn arrived unlessRefused refusalOf refusal choose
-  narrow-arrived d octets out back = narrow-same (λ n. arrivedOn image n octets out back) (refused Answer.UnknownDirection (sessionOf image)) alike d
+  narrow-arrived d octets out back e = narrow-same (λ n. arrivedOn image n octets out back) (refused Answer.UnknownDirection (sessionOf image)) alike d e
     where
       alike : (n : ℕ) → 2 ≤ n → arrivedOn image n octets out back ≡ refused Answer.UnknownDirection (sessionOf image)
       alike n h = rw (le-leb 2 n h)
 
-  pub narrow-ended : (d : ℕ) (out back : List ℕ) → endedOn image (narrow d) out back ≡ endedOn image d out back
+  pub narrow-ended : (d : ℕ) (out back : List ℕ) {n : ℕ} → n ≡ narrow d → endedOn image n out back ≡ endedOn image d out back
   unfolding endedOn endCalled unlessRefused refusalOf refusal choose
-  narrow-ended d out back = narrow-same (λ n. endedOn image n out back) (refused Answer.UnknownDirection (sessionOf image)) alike d
+  narrow-ended d out back e = narrow-same (λ n. endedOn image n out back) (refused Answer.UnknownDirection (sessionOf image)) alike d e
     where
       alike : (n : ℕ) → 2 ≤ n → endedOn image n out back ≡ refused Answer.UnknownDirection (sessionOf image)
       alike n h = rw (le-leb 2 n h)
 
-pub narrow-offset : (s : Session) (d : ℕ) → offset s (narrow d) ≡ offset s d
+narrow-offset : (s : Session) (d : ℕ) {n : ℕ} → n ≡ narrow d → offset s n ≡ offset s d
 unfolding offset
-narrow-offset s d = narrow-same (offset s) DirectionOffset.UnknownDirection alike d
+narrow-offset s d e = narrow-same (offset s) DirectionOffset.UnknownDirection alike d e
   where
     alike : (n : ℕ) → 2 ≤ n → offset s n ≡ DirectionOffset.UnknownDirection
     alike zero h = absurd (omega arith)
@@ -99,33 +100,20 @@ narrow-offset s d = narrow-same (offset s) DirectionOffset.UnknownDirection alik
 
 -- ---- an arrival or an end
 
--- the number and the counts that tell of a call
-pub numbers-told : (o : Outcome) (r : Told) {n : ℕ} {counts : List ℕ} → Tells r (o .called) → n ≡ answerNumber (r .answer)
-    → counts ≡ countsFrom (r .taken) (r .written) → (n ≡ answerNumber (o .called .answer)) × (counts ≡ countsOf (o .called))
-unfolding countsOf
-numbers-told o r t number counted =
-    (number ∙ ap answerNumber (t .answer), counted ∙ (λ i. countsFrom (t .taken i) (t .written i)))
-
--- what C is told, from a call on the narrowed direction
-pub all-told : (image out back : List ℕ) {o p : Outcome} → o ≡ p → (r : Told) {n : ℕ} {counts image′ out′ back′ : List ℕ} → Tells r (o .called)
-    → n ≡ answerNumber (r .answer) → counts ≡ countsFrom (r .taken) (r .written) → image′ ≡ imageAfter image (o .called)
-    → out′ ≡ serverAfter o out → back′ ≡ clientAfter o back
+-- what C is told, from what a call on the narrowed direction left
+pub all-told : (image out back : List ℕ) {o p : Outcome} → o ≡ p → (r : Told) {n : ℕ} {counts image′ out′ back′ : List ℕ}
+    → Left o r image image′ out out′ back back′ → n ≡ answerNumber (r .answer) → counts ≡ countsFrom (r .taken) (r .written)
     → ((n ≡ answerNumber (p .called .answer)) × (counts ≡ countsOf (p .called)))
     × ((image′ ≡ imageAfter image (p .called)) × ((out′ ≡ serverAfter p out) × (back′ ≡ clientAfter p back)))
-all-told image out back {o} same r t number counted memory sent answered =
-    let told = numbers-told o r t number counted in (
-      (told .0 ∙ ap (λ (x : Outcome). answerNumber (x .called .answer)) same, told .1 ∙ ap (λ (x : Outcome). countsOf (x .called)) same),
-      (
-        memory ∙ ap (λ (x : Outcome). imageAfter image (x .called)) same,
-        (sent ∙ ap (λ (x : Outcome). serverAfter x out) same, answered ∙ ap (λ (x : Outcome). clientAfter x back) same),
-      ),
-    )
+unfolding countsOf
+all-told image out back same r ((t, memory), buffers) number counted =
+    rw (← same) ((number ∙ ap answerNumber (t .answer), counted ∙ (λ i. countsFrom (t .taken i) (t .written i))), (memory, buffers))
 
 -- ---- offset
 
 pub offset-told : (image : List ℕ) (direction old : ℕ) {s : Session} {narrowed : ℕ} {x y : DirectionOffset} {n out : ℕ} → s ≡ sessionOf image
     → narrowed ≡ narrow direction → x ≡ offset s narrowed → x ≡ y → n ≡ offsetNumber y → out ≡ offsetAfter y old
     → (n ≡ offsetNumber (offset (sessionOf image) direction)) × (out ≡ offsetAfter (offset (sessionOf image) direction) old)
-offset-told image direction old {x = x} {y = y} e w p q number after =
-    let same : y ≡ offset (sessionOf image) direction = sym q ∙ (p ∙ ((λ i. offset (e i) (w i)) ∙ narrow-offset (sessionOf image) direction)) in
+offset-told image direction old {narrowed = narrowed} {y = y} e w p q number after =
+    let same : y ≡ offset (sessionOf image) direction = sym q ∙ (p ∙ (ap (λ (r : Session). offset r narrowed) e ∙ narrow-offset (sessionOf image) direction w)) in
     (number ∙ ap offsetNumber same, after ∙ ap (λ (z : DirectionOffset). offsetAfter z old) same)

@@ -1,7 +1,4 @@
 -- `fashlemor::fashlemor_end`: the end on the record where it lies, and what is told of it.
-use mathlib.Core.Path.{ap, _∙_}
-use Prim.Native.Nat.{ℕ}
-use Rattle.image.specs.Lent.{endedOn}
 use Rattle.fashlemor.proofs.Calls.{narrow-ended, all-told}
 use borrow.Author.Needs.{needs}
 use Rattle.fashlemor.proofs.fashlemor_end.Statement.{statement}
@@ -11,11 +8,8 @@ returns : tie.Need-returns
 returns c =
     let a = c .before .before .before .before .before .before .before .before .before .before .before .before .before .before .before .before .before .before .args in
     let r = c .before .before .before .before .before .before .before .before .before .before .end-at in
-    let same =
-    ap (λ (n : ℕ). endedOn (a .image .now) n (a .to-server .now) (a .to-client .now)) (c .before .before .before .before .before .before .before .before .before .before .before .before .before .narrowed .ensures)
-    ∙ narrow-ended (a .image .now) (a .direction) (a .to-server .now) (a .to-client .now) in
-    let left = r .ensures in
-    all-told (a .image .now) (a .to-server .now) (a .to-client .now) same (r .result) (left .0 .0) (c .number-of .ensures) (c .before .put-counts .ensures) (left .0 .1) (left .1 .0) (left .1 .1)
+    let same = narrow-ended (a .image .now) (a .direction) (a .to-server .now) (a .to-client .now) (c .before .before .before .before .before .before .before .before .before .before .before .before .before .narrowed .ensures) in
+    all-told (a .image .now) (a .to-server .now) (a .to-client .now) same (r .result) (r .ensures) (c .number-of .ensures) (c .before .put-counts .ensures)
 
 pub fashlemor-end-spec : {M : Type 1} → statement M
 fashlemor-end-spec =
