@@ -9,7 +9,6 @@ ghost use mathlib.Core.Path.{_≡_};
 ghost use mathlib.Core.List.{[], _∷_, _++_};
 ghost use Prim.Native.Nat.{_≤_};
 ghost use lib.ListN.{length};
-ghost use Rattle.rules.specs.Octets.{decimal};
 ghost use Rattle.rules.specs.Commands.{commas, pasvLine, portLine};
 ghost use Rattle.rules.specs.Replies.{extendedPassiveLine};
 ghost use Rattle.output.specs.Buffer.{Put, PutInRoom};
@@ -26,14 +25,6 @@ pub fn put_pasv(out: &mut [u8], at: usize) -> usize
     put(out, at, b"PASV\r\n")
 }
 
-// A number and the octets after it, where both have room.
-fn put_number(out: &mut [u8], at: usize, n: u16, after: &[u8]) -> usize
-    ensures { λ r. ⌜ PutInRoom (now (out .entry)) at (decimal n ++ now (after .entry)) r (now (out .exit)) ⌝ }
-{
-    let next = put_decimal(out, at, n);
-    put(out, next, after)
-}
-
 pub fn extended_passive_length(port: u16) -> usize
     ensures { λ r. ⌜ r ≡ length (extendedPassiveLine port) ⌝ }
 {
@@ -47,8 +38,9 @@ pub fn put_extended_passive(out: &mut [u8], at: usize, port: u16) -> usize
     if !has_room(out.len(), at, extended_passive_length(port)) {
         return at;
     }
-    let next = put(out, at, b"229 Entering Extended Passive Mode (|||");
-    put_number(out, next, port, b"|)\r\n")
+    let mut next = put(out, at, b"229 Entering Extended Passive Mode (|||");
+    next = put_decimal(out, next, port);
+    put(out, next, b"|)\r\n")
 }
 
 pub fn port_line_length(mapped: [u8; IPV4], port: u16) -> usize
@@ -88,6 +80,8 @@ fn pair_length(a: u8, b: u8) -> usize
 fn put_pair(out: &mut [u8], at: usize, a: u8, b: u8, after: &[u8]) -> usize
     ensures { λ r. ⌜ PutInRoom (now (out .entry)) at (commas (a ∷ b ∷ []) ++ now (after .entry)) r (now (out .exit)) ⌝ }
 {
-    let next = put_number(out, at, a as u16, b",");
-    put_number(out, next, b as u16, after)
+    let mut next = put_decimal(out, at, a as u16);
+    next = put(out, next, b",");
+    next = put_decimal(out, next, b as u16);
+    put(out, next, after)
 }

@@ -1,4 +1,4 @@
--- `writers::put_extended_passive` meets its contract: the port put after the text, where both have room.
+-- `writers::put_extended_passive` meets its contract: the text, the port and the text after it put one after another, where all have room.
 use mathlib.Core.List.{_++_}
 use borrow.Author.Needs.{needs}
 use Rattle.rules.specs.Octets.{oct, decimal}
@@ -16,12 +16,15 @@ returns c =
 returns-2 : tie.Need-returns-2
 unfolding extendedPassiveLine
 returns-2 c =
-    let d = c .before .before .before .before .before .before .before in
-    let t = d .before .before .before in
+    let third = c .before .before in
+    let second = third .before .before .before .before .before in
+    let first = second .before .before .before .before in
+    let t = first .before .before .before in
     let a = t .before .before .before .before .args in
     joined (a .out .now) (a .at) (oct "229 Entering Extended Passive Mode (|||") (decimal (a .port) ++ oct "|)\r\n")
-    (λ _. d .put .ensures)
-    (c .before .before .put-number .ensures)
+    (λ _. first .put .ensures)
+    (joined (first .put .last .0) (first .put .result) (decimal (a .port)) (oct "|)\r\n") (λ _. second .put-decimal .ensures)
+    (λ _. third .put2 .ensures))
     (room (a .out .now) (a .at) (extendedPassiveLine (a .port)) (t .before .has-room .ensures)
     (t .before .before .extended-passive-length .ensures) (t .if1 .left))
 
@@ -33,6 +36,7 @@ put-extended-passive-spec =
     (λ c κs. search needs)
     returns
     (λ c. search needs)
+    (λ c κs. search needs)
     (λ c κs. search needs)
     (λ c. search needs)
     (λ c κs. search needs)
