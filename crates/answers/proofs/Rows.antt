@@ -67,7 +67,6 @@ named (suc (suc (suc (suc (suc zero))))) = Answer.BadSetup
 named (suc (suc (suc (suc (suc (suc n)))))) = Answer.DirectionEnded
 
 named-back : (a : Answer) → named (answerNumber a) ≡ a
-unfolding answerNumber
 named-back Answer.Done = refl
 named-back Answer.QueueFull = refl
 named-back Answer.NoRoom = refl
@@ -77,7 +76,7 @@ named-back Answer.BadSetup = refl
 named-back Answer.DirectionEnded = refl
 
 -- an answer is known by its number
-same-number : (a b : Answer) → answerNumber a ≡ answerNumber b → a ≡ b
+pub same-number : (a b : Answer) → answerNumber a ≡ answerNumber b → a ≡ b
 same-number a b e = sym (named-back a) ∙ ap named e ∙ named-back b
 
 -- ---- refused, or not
@@ -97,28 +96,28 @@ pub data Unless (c : Situation) : Outcome → Type 0 where
 
 module _ (s : Session) (d : ℕ) (o : Outcome) (low : numberOf o < 3) where
   pub three-words : (r : Option Answer) → Refusal s d r → (numberOf (unlessRefused r s o) ≡ 3) ↔ Unknown d
-  unfolding unlessRefused refused answerNumber
+  unfolding unlessRefused refused
   three-words r (unknown u) = ((λ e. u), (λ w. refl))
   three-words r (bad k n) = ((λ e. absurd (omega arith)), (λ w. absurd (both-ways d w k)))
   three-words r (over k n e) = ((λ e. absurd (omega arith)), (λ w. absurd (both-ways d w k)))
   three-words r (accepted k n e) = ((λ e. absurd (omega arith)), (λ w. absurd (both-ways d w k)))
 
   pub four-words : (r : Option Answer) → Refusal s d r → (numberOf (unlessRefused r s o) ≡ 4) ↔ (Known d × (Sound s → ⊥))
-  unfolding unlessRefused refused answerNumber
+  unfolding unlessRefused refused
   four-words r (unknown u) = ((λ e. absurd (omega arith)), (λ w. absurd (both-ways d u (w .0))))
   four-words r (bad k n) = ((λ e. (k, n)), (λ w. refl))
   four-words r (over k n e) = ((λ e. absurd (omega arith)), (λ w. absurd (w .1 n)))
   four-words r (accepted k n e) = ((λ e. absurd (omega arith)), (λ w. absurd (w .1 n)))
 
   pub six-words : (r : Option Answer) → Refusal s d r → (numberOf (unlessRefused r s o) ≡ 6) ↔ (Known d × Sound s × HasEnded s d)
-  unfolding unlessRefused refused answerNumber
+  unfolding unlessRefused refused
   six-words r (unknown u) = ((λ e. absurd (omega arith)), (λ w. absurd (both-ways d u (w .0))))
   six-words r (bad k n) = ((λ e. absurd (omega arith)), (λ w. absurd (n (w .1))))
   six-words r (over k n e) = ((λ t. (k, n, e)), (λ w. refl))
   six-words r (accepted k n e) = ((λ t. absurd (omega arith)), (λ w. absurd (e (w .2))))
 
   pub five-never : (r : Option Answer) → Refusal s d r → numberOf (unlessRefused r s o) ≢ 5
-  unfolding unlessRefused refused answerNumber
+  unfolding unlessRefused refused
   five-never r (unknown u) e = omega arith
   five-never r (bad k n) e = omega arith
   five-never r (over k n t) e = omega arith
@@ -134,7 +133,7 @@ module _ (s : Session) (d : ℕ) (o : Outcome) (low : numberOf o < 3) where
 -- what is said of the outcome of an accepted call, in words that hold of accepted calls only
 pub unless-words : (c : Situation) (o : Outcome) (P : Outcome → Type 0) (W : Type 0) → ((a : Answer) → 3 ≤ answerNumber a → P (refused a (c .session)) → ⊥)
     → (W → Accepted c) → (Accepted c → P o ↔ W) → P (unlessRefused (refusalOf (c .session) (c .direction)) (c .session) o) ↔ W
-unfolding unlessRefused answerNumber
+unfolding unlessRefused
 unless-words c o P W never needs words = by-refusal (refusalOf (c .session) (c .direction)) (refusal-of (c .session) (c .direction))
   where
     by-refusal : (r : Option Answer) → Refusal (c .session) (c .direction) r → P (unlessRefused r (c .session) o) ↔ W
@@ -180,7 +179,7 @@ module _ (c : Situation) (octets : List ℕ) where
   taken-first w = record { accepted = w; each = λ j h. goes-on j .0 (it-takes .each j h) }
 
   result-low : numberOf result < 3
-  unfolding outcome answerNumber
+  unfolding outcome
   result-low = by-last (it-takes .last)
     where
       by-last : ItsLast
@@ -189,7 +188,7 @@ module _ (c : Situation) (octets : List ℕ) where
       by-last (inr p) = stops-low (stop-words c octets (took .taken)) (p .1)
 
   pub zero-words : (k : ℕ) → Accepted c → ((numberOf result ≡ 0) × (result .called .taken ≡ k)) ↔ Zero c octets k
-  unfolding outcome answerNumber
+  unfolding outcome
   zero-words k w = (
     (λ p. subst (λ (n : ℕ). Zero c octets n) (p .1) (by-last (same-number (took .answer) Answer.Done (p .0)) (it-takes .last))),
     (λ z. let t = all-taken it-takes (λ j h. goes-on j .1 (z .takes .each j (omega (arith, z .all)))) in
@@ -263,30 +262,30 @@ module _ (s : Session) (rs rc : ℕ) where
   not-exceed (suc d) e h = room [] (heldGives server s) rs rc e (inr h)
 
   end-low : (d : Side) (b : Bool) → numberOf (endOutcome s d (atEnd d) b) < 3
-  unfolding endOutcome outcome refused answerNumber
+  unfolding endOutcome outcome refused
   end-low d true = omega arith
   end-low d false = omega arith
 
   -- 0 and 2 by whether the held octets fit
   pub end-zero-words : (d : ℕ) → Accepted (endCall d) → (b : Bool) → heldFit (sideOf d) ≡ b
       → (numberOf (endOutcome s (sideOf d) (atEnd (sideOf d)) b) ≡ 0) ↔ (Accepted (endCall d) × (HeldExceed (endCall d) → ⊥))
-  unfolding endOutcome outcome refused answerNumber
+  unfolding endOutcome outcome refused
   end-zero-words d w true e = ((λ p. (w, not-exceed d e)), (λ q. refl))
   end-zero-words d w false e = ((λ p. absurd (omega arith)), (λ q. absurd (q .1 (exceed d e))))
 
   pub end-two-words : (d : ℕ) → Accepted (endCall d) → (b : Bool) → heldFit (sideOf d) ≡ b
       → (numberOf (endOutcome s (sideOf d) (atEnd (sideOf d)) b) ≡ 2) ↔ (Accepted (endCall d) × HeldExceed (endCall d))
-  unfolding endOutcome outcome refused answerNumber
+  unfolding endOutcome outcome refused
   end-two-words d w true e = ((λ p. absurd (omega arith)), (λ q. absurd (not-exceed d e (q .1))))
   end-two-words d w false e = ((λ p. (w, exceed d e)), (λ q. refl))
 
   pub end-one-never : (d : Side) (b : Bool) → numberOf (endOutcome s d (atEnd d) b) ≢ 1
-  unfolding endOutcome outcome refused answerNumber
+  unfolding endOutcome outcome refused
   end-one-never d true e = omega arith
   end-one-never d false e = omega arith
 
   pub ends : (d : ℕ) (b : Bool) → numberOf (endOutcome s (sideOf d) (atEnd (sideOf d)) b) ≡ 0 → Ends (endCall d) (endOutcome s (sideOf d) (atEnd (sideOf d)) b)
-  unfolding endOutcome outcome refused answerNumber endStep sessionAfter
+  unfolding endOutcome outcome refused endStep sessionAfter
   ends zero true e =
       record { passed = refl; nothing = refl; taken = refl; owed = refl; kinds = refl; over = refl; writtenServer = refl; writtenClient = refl; session = refl }
   ends (suc d) true e =
@@ -294,7 +293,7 @@ module _ (s : Session) (rs rc : ℕ) where
   ends d false e = absurd (omega arith)
 
   pub end-untouched : (d : Side) (b : Bool) → numberOf (endOutcome s d (atEnd d) b) ≡ 2 → Untouched s (endOutcome s d (atEnd d) b)
-  unfolding endOutcome outcome answerNumber
+  unfolding endOutcome outcome
   end-untouched d true e = absurd (omega arith)
   end-untouched d false e = untouched Answer.NoRoom s
 

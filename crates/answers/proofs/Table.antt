@@ -113,14 +113,12 @@ module _ (c : Situation) where
 
     -- 1: "next octet is the client's, no AUTH yet, 16 replies owed", "those before it" taken
     pub one : (k : ℕ) → ((numberOf (arrivedAt c octets) ≡ 1) × (arrivedAt c octets .called .taken ≡ k)) ↔ One c octets k
-    unfolding answerNumber
     one k =
         row 1 k (omega arith) (One c octets k) (λ z. z .takes)
         (stopped-words c octets Answer.QueueFull (Full c octets) (λ e. let z : _≡_ {A = ℕ} 0 1 = cc in omega arith) (λ j. stops-full (stop-words c octets j)) k)
 
     -- 2: "next octet's output .. exceeds the room left in either buffer", "those before it" taken
     pub two : (k : ℕ) → ((numberOf (arrivedAt c octets) ≡ 2) × (arrivedAt c octets .called .taken ≡ k)) ↔ Two c octets k
-    unfolding answerNumber
     two k =
         row 2 k (omega arith) (Two c octets k) (λ z. z .takes)
         (stopped-words c octets Answer.NoRoom (λ j. (Full c octets j → ⊥) × Exceeds c octets j) (λ e. let z : _≡_ {A = ℕ} 0 1 = cc in omega arith)
@@ -133,7 +131,7 @@ module _ (c : Situation) where
 
   -- "An empty arrival answers 0 unless 3, 4 or 6 applies"
   pub empty-arrival : (numberOf (arrivedAt c []) ≡ 0) ↔ Accepted c
-  unfolding arrived refused takes outcome answerNumber
+  unfolding arrived refused takes outcome
   empty-arrival =
       unless-words c (result c []) (λ o. numberOf o ≡ 0) (Accepted c) (λ a h p. omega arith) (λ w. w) (λ w. ((λ p. w), (λ q. refl)))
 
@@ -183,7 +181,7 @@ module _ (su : Setup) where
 
   -- 5: "an undefined flag bit, or EPRT on and not supported"
   pub five : (answerNumber (prepared su .answer) ≡ 5) ↔ BadFlags flags
-  unfolding prepared setupAnswer choose answerNumber
+  unfolding prepared setupAnswer choose
   five = by-flags (badFlags flags) refl
     where
       by-flags : (b : Bool) → badFlags flags ≡ b → (answerNumber (setupBy b .answer) ≡ 5) ↔ BadFlags flags
@@ -192,7 +190,7 @@ module _ (su : Setup) where
 
   -- "With 5 the record is not live and otherwise all zero"
   pub five-dead : answerNumber (prepared su .answer) ≡ 5 → prepared su .session ≡ deadSession
-  unfolding prepared setupAnswer choose answerNumber
+  unfolding prepared setupAnswer choose
   five-dead p = by-flags (badFlags flags) p
     where
       by-flags : (b : Bool) → answerNumber (setupBy b .answer) ≡ 5 → setupBy b .session ≡ deadSession

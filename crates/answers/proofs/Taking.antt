@@ -70,7 +70,6 @@ module _ {full exceeds : Type 0} where
   stops-room (goesOn n m) = ((λ e. absurd (some-none (sym e))), (λ w. absurd (m (w .1))))
 
   pub stops-low : {o : Option Answer} {a : Answer} → Stops full exceeds o → o ≡ some a → answerNumber a < 3
-  unfolding answerNumber
   stops-low (isFull p) e = rw (← ap orDone e) (omega arith)
   stops-low (noRoom n p) e = rw (← ap orDone e) (omega arith)
   stops-low (goesOn n m) e = absurd (some-none (sym e))

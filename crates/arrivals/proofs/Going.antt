@@ -206,7 +206,6 @@ module _ (f : Fixed) (d : Side) (l : List ℕ) (s₀ : State) (from to : List �
 
   -- it stops the call
   stops-by : (full fit : Bool) → queue ≡ full → octetFits f d x k ≡ fit → (answerNumber a ≡ 0 → ⊥) → Stopped f d l s₀ from to a i m
-  unfolding answerNumber
   stops-by true fit e g not =
       let same = same-as (next-full f d x k can e) in
       subst (λ (b : Answer). Stopped f d l s₀ from to b i m) (sym (same .0))
@@ -239,7 +238,6 @@ module _ (f : Fixed) (d : Side) (l : List ℕ) (s₀ : State) (from to : List �
       record { owed = counts .owed; command = counts .command; reply = counts .reply; server = omega arith; client = omega arith }
 
   goes-by : (full fit : Bool) → queue ≡ full → octetFits f d x k ≡ fit → answerNumber a ≡ 0 → Counted (m .state .control) → Going f d l s₀ from to m (i + 1)
-  unfolding answerNumber
   goes-by true fit e g is counts =
       let one = ap answerNumber (same-as (next-full f d x k can e) .0) in absurd (omega arith)
   goes-by false false e g is counts =

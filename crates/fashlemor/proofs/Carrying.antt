@@ -107,12 +107,11 @@ unfolding freshSession
 fresh-client su = refl
 
 pub good-flags : (su : Setup) → prepared su .answer ≡ Answer.Done → BadFlags (su .flags) → ⊥
-unfolding answerNumber
 good-flags su e b = omega (arith, five su .1 b, ap answerNumber e)
 
 -- what is told of a setup that answered 0
 had-size : (octets : List ℕ) → preparedFrom octets .answer ≡ Answer.Done → (b : Bool) → eqb (length octets) setupSize ≡ b → length octets ≡ setupSize
-unfolding preparedFrom choose answerNumber
+unfolding preparedFrom choose
 had-size octets done true e = eqb-true (length octets) setupSize e
 had-size octets done false e = absurd (omega (arith, ap answerNumber (rw e at done)))
 

@@ -64,7 +64,7 @@ agrees su =
 -- ---- a fresh session
 
 good-flags : (b : Bool) → choose b Answer.BadSetup Answer.Done ≡ Answer.Done → b ≡ false
-unfolding choose answerNumber
+unfolding choose
 good-flags true e = absurd (omega (arith, ap answerNumber e))
 good-flags false e = refl
 

@@ -2,7 +2,7 @@
 use mathlib.Core.Path.{_≡_, refl, ap, sym, _∙_}
 use mathlib.Core.List.{List, [], _∷_}
 use mathlib.Core.Bool.{true}
-use Prim.Native.Nat.{ℕ, zero, suc, _≤_}
+use Prim.Native.Nat.{ℕ, _≤_}
 use native.Mathlib.Omega.{arith}
 use lib.Dec.{leb}
 use lib.ListN.{length, replicate, length-replicate}
@@ -17,6 +17,7 @@ use Rattle.records.specs.declared.Session.{Session}
 use Rattle.session.specs.declared.Prepared.{Prepared}
 use Rattle.session.specs.Calls.{Outcome, prepared, preparedFrom, freshSession}
 use Rattle.answers.specs.Table.{Situation as TableCall, Result, ofArrival as arrivalResult, ofEnd as endingResult}
+use Rattle.answers.proofs.Rows.{same-number}
 use Rattle.answers.proofs.Table.{setup-zero}
 use Rattle.history.specs.Gateway.{Fresh as SessionFresh, Promise as SessionPromise, outcomeOf, gateway}
 use Rattle.history.proofs.Demand3.{demand3}
@@ -28,30 +29,6 @@ use Rattle.fashlemor.specs.Carried.{Holds}
 use Rattle.fashlemor.proofs.Calls.{room}
 use Rattle.fashlemor.proofs.Carrying.{good-flags, done-size, begun, carried}
 use Rattle.hosts.specs.Memory.{HostFresh, outcomeAt, HostPromise, host, HostAnswering}
-
--- ---- an answer by its number
-
-answerOf : ℕ → Answer
-answerOf zero = Answer.Done
-answerOf (suc zero) = Answer.QueueFull
-answerOf (suc (suc zero)) = Answer.NoRoom
-answerOf (suc (suc (suc zero))) = Answer.UnknownDirection
-answerOf (suc (suc (suc (suc zero)))) = Answer.BadRecord
-answerOf (suc (suc (suc (suc (suc zero))))) = Answer.BadSetup
-answerOf (suc (suc (suc (suc (suc (suc n)))))) = Answer.DirectionEnded
-
-answer-of : (a : Answer) → answerOf (answerNumber a) ≡ a
-unfolding answerNumber answerOf
-answer-of Answer.Done = refl
-answer-of Answer.QueueFull = refl
-answer-of Answer.NoRoom = refl
-answer-of Answer.UnknownDirection = refl
-answer-of Answer.BadRecord = refl
-answer-of Answer.BadSetup = refl
-answer-of Answer.DirectionEnded = refl
-
-pub same-answer : (a b : Answer) → answerNumber a ≡ answerNumber b → a ≡ b
-same-answer a b e = sym (answer-of a) ∙ (ap answerOf e ∙ answer-of b)
 
 -- ---- one call
 
@@ -96,7 +73,7 @@ module _ (image : List ℕ) (s : Session) (h : Holds image s) (c : Call) (t : Re
   unfolding serverAfter clientAfter
   promised =
       record {
-        answer = same-answer _ _ (p .number) ∙ ap (λ (o : Outcome). o .called .answer) here;
+        answer = same-number _ _ (p .number) ∙ ap (λ (o : Outcome). o .called .answer) here;
         taken = p .taken ∙ ap (λ (o : Outcome). o .called .taken) here;
         toServer = p .toServer ∙ ap (λ (o : Outcome). o .called .written .server) here;
         toClient = p .toClient ∙ ap (λ (o : Outcome). o .called .written .client) here;
@@ -145,7 +122,7 @@ run {image} {z} s h (next {c = c} {t = t} {l = l} p rest) =
 
 module _ (su : Setup) (image : List ℕ) (f : HostFresh su image) where
   done : preparedFrom (f .octets) .answer ≡ Answer.Done
-  done = same-answer _ _ (room (f .memory) (preparedFrom (f .octets)) (f .room) refl ∙ f .number)
+  done = same-number _ _ (room (f .memory) (preparedFrom (f .octets)) (f .room) refl ∙ f .number)
 
   made-fresh : prepared su ≡ record { answer = Answer.Done; session = freshSession su }
   made-fresh =

@@ -22,7 +22,7 @@ use Rattle.image.specs.Image.{part, fieldsIn, isImage, sessionOf}
 use Rattle.image.specs.Lent.{arrivedOn}
 use Rattle.image.proofs.Back.{dead-sized}
 use Rattle.hosts.specs.Memory.{outcomeAt, HostPromise}
-use Rattle.hosts.proofs.Hosts.{same-answer}
+use Rattle.answers.proofs.Rows.{same-number}
 
 dead-octets : every isOctet (deadSession .fixed .mapped) ≡ true
 unfolding deadSession every
@@ -66,4 +66,4 @@ module _ (image : List ℕ) (octets : (i : ℕ) → getD image i 0 < 256) where
       → Progress arriving (length out) (length back) (t .answer) (t .taken)
   unfolding outcomeAt arrivedOn
   progress-promised d arriving out back t p =
-      progress (sessionOf image) d arriving (length out) (length back) image-shaped (same-answer _ _ (p .number)) (p .taken)
+      progress (sessionOf image) d arriving (length out) (length back) image-shaped (same-number _ _ (p .number)) (p .taken)

@@ -30,14 +30,13 @@ five e = absurd (omega arith)
 
 had-room : (memory : List ℕ) (p : Prepared) (b : Bool) → leb imageSize (length memory) ≡ b → setupNumber memory p ≡ 0
     → (imageSize ≤ length memory) × (answerNumber (p .answer) ≡ 0)
-unfolding setupNumber choose answerNumber
+unfolding setupNumber choose
 had-room memory p true e h = (leb-true imageSize (length memory) e, rw e at h)
 had-room memory p false e h = five (rw e at h)
 
 pub fresh-promised : (memory octets : List ℕ) {n : ℕ} {image : List ℕ} → n ≡ setupNumber memory (preparedFrom octets)
     → image ≡ putAt memory 0 (imageOf (preparedFrom octets .session)) → every (λ n. leb n 255) octets ≡ true → n ≡ answerNumber Answer.Done
     → HostFresh (setupIn octets) image
-unfolding answerNumber
 fresh-promised memory octets number put each done =
     let told = sym number ∙ done in
     let had = had-room memory (preparedFrom octets) (leb imageSize (length memory)) refl told in

@@ -45,13 +45,13 @@ use Rattle.image.proofs.Reading.{image-size, no-image, is-image}
 
 stopped-below : (full room : Bool) (s : State) (r : Took) → leb 3 (answerNumber (r .answer)) ≡ false
     → leb 3 (answerNumber (unlessStopped (stop full room) s r .answer)) ≡ false
-unfolding unlessStopped stop choose answerNumber
+unfolding unlessStopped stop choose
 stopped-below true room s r h = refl
 stopped-below false true s r h = h
 stopped-below false false s r h = refl
 
 pub takes-below : (f : Fixed) (d : Side) (s : State) (l : List ℕ) (m n : ℕ) → leb 3 (answerNumber (takes f d s l m n .answer)) ≡ false
-unfolding takes stopOf answerNumber
+unfolding takes stopOf
 takes-below f d s [] m n = refl
 takes-below f d s (x ∷ xs) m n = stopped-below _ _ s _ (takes-below f d (octetStep f d s x .state) xs _ _)
 
@@ -207,7 +207,6 @@ module _ (image octets out other : List ℕ) (d : ℕ) (side : Side) (same : sid
 
 -- "With 3, 4 and 6 nothing is written and the record comes back equal"
 refused-below : (d : ℕ) (sound ended : Bool) (a : Answer) → refusal d sound ended ≡ some a → leb 3 (answerNumber a) ≡ true
-unfolding answerNumber
 refused-below d sound ended a =
     refusal-cases (λ (o : Option Answer). o ≡ some a → leb 3 (answerNumber a) ≡ true) d sound ended
     (λ t q. ap told (sym q)) (λ t u q. ap told (sym q)) (λ t u v q. ap told (sym q)) (λ t u v q. cc)

@@ -8,7 +8,7 @@ use native.Mathlib.Omega.{arith}
 use lib.ListN.{length, take, drop, getD, length-drop}
 use lib.Seq.{length-take-le, take-take}
 use Rattle.rules.specs.Octets.{choose}
-use Rattle.rules.specs.Answers.{Side, client, server, answerNumber}
+use Rattle.rules.specs.Answers.{Side, client, server}
 use Rattle.rules.specs.declared.Answer.{Answer}
 use Rattle.rules.specs.Lines.{mostHeld, passed}
 use Rattle.records.specs.Layout.{replyAt}
@@ -81,7 +81,7 @@ module _ (image out : List ℕ) (ok : isImage image ≡ true) (d : Side) {h at :
   -- where they have no room
   pub no-room-left : ((i : ℕ) → getD image i 0 < 256) → {n : ℕ} → n ≡ length (passed read) → length out < n → {r : Told} → ToldOnly r Answer.NoRoom
       → LeftOne d (heldEnd s d (length out)) r image image out out
-  unfolding refused imageAfter choose answerNumber
+  unfolding refused imageAfter choose
   no-room-left octets size less {r} e =
       let left = no-room s d out (size ∙ ap length passed-is) less refl in (
         subst (λ (x : Called). Tells r x × (image ≡ imageAfter image x)) (left .0)
@@ -101,7 +101,7 @@ module _ (image out : List ℕ) (ok : isImage image ≡ true) (d : Side) {h at :
     pub ended-left : {out′ image′ : List ℕ} {w : Written} → out′ ≡ putAt out 0 (passed read) → w ≡ writtenFrom d n
         → image′ ≡ putAt image 0 (imageOf (endedWith s d n))
         → LeftOne d (heldEnd s d (length out)) (record { answer = Answer.Done; taken = 0; written = w }) image image′ out out′
-    unfolding imageAfter choose answerNumber
+    unfolding imageAfter choose
     ended-left {out′} {image′} {w} eo ew put =
         let next : Written → Session = λ x. sessionAfter s d 0 (x .server) (x .client) (endStep d (stateOf s) .state) in
         let left = passed-on s d out (em ∙ ap length passed-is) fit (en ∙ ap (positionAfter out 0) passed-is) (eo ∙ ap (putAt out 0) passed-is) ew refl in (

@@ -16,7 +16,7 @@ use Rattle.rules.specs.declared.Answer.the-variants as a
 use Rattle.output.proofs.Decimal.{decimal-most}
 use Rattle.records.specs.declared.Session.{Session}
 use Rattle.steps.specs.Steps.{Step}
-use Rattle.session.specs.Calls.{Outcome, refused, unlessRefused, outcome, stateOf, arrived, endStep, endOutcome, endCalled, prepared}
+use Rattle.session.specs.Calls.{Outcome, refused, unlessRefused, outcome, stateOf, arrived, endStep, endOutcome, endCalled, preparedFrom}
 use Rattle.records.specs.Sound.{refusalOf}
 use Rattle.steps.specs.Takes.{takes}
 use Rattle.octets.proofs.Ranges.{and-both}
@@ -61,7 +61,6 @@ field-most (x ∷ xs) n h k = omega (arith, all-most (x ∷ xs))
 -- ---- what an entry did
 
 answer-most : (r : Answer) → answerNumber r ≤ 6
-unfolding answerNumber
 answer-most a.Done = omega arith
 answer-most a.QueueFull = omega arith
 answer-most a.NoRoom = omega arith
@@ -136,7 +135,7 @@ small-entry s (suc zero) body = small-arrival s 1 body
 small-entry s (suc (suc zero)) body = small-end s 0 (length body)
 small-entry s (suc (suc (suc zero))) body = small-end s 1 (length body)
 small-entry s (suc (suc (suc (suc k)))) body =
-    record { taken = omega arith; number = answer-most _; server = omega arith; client = omega arith }
+    record { taken = omega arith; number = answer-most (preparedFrom body .answer); server = omega arith; client = omega arith }
 
 -- ---- the parts
 

@@ -19,7 +19,7 @@ use Rattle.rules.specs.declared.Answer.the-variants.{
 }
 
 -- the table's first column
-unfoldable pub answerNumber : Answer → ℕ
+abbrev pub answerNumber : Answer → ℕ
 answerNumber Done = 0
 answerNumber QueueFull = 1
 answerNumber NoRoom = 2
@@ -96,5 +96,5 @@ offsetOf written taken = wrapped (wrapped written + (2 ^ 32 - wrapped taken))
 
 -- this page's definitions, for a proof that computes with them
 unfoldable pub answers-opened : Unit {0}
-unfolding answerNumber isQueueFull fits soundHeld soundRecord refusal stop mostToServer mostToClient wrapped offsetOf
+unfolding isQueueFull fits soundHeld soundRecord refusal stop mostToServer mostToClient wrapped offsetOf
 answers-opened = tt
