@@ -103,7 +103,8 @@ pub fn hold_run(octets: &[u8], i: usize, line: &mut [u8], held: usize) -> usize
 }
 
 // Where the octets from i on that a direction gives on as they come end, or where `most` of them do. None are given on
-// where octets are held by a direction that does not hold, which number 4 refuses.
+// where octets are held by a direction that does not hold, which number 4 refuses. How far is left open: what a run
+// leaves is taken octet by octet.
 fn given_end(direction: Direction, octets: &[u8], i: usize, most: usize) -> usize
     requires { ⌜ i ≤ length (now octets) ⌝ }
     ensures within { λ r. ⌜ (i ≤ r) × (r ≤ length (now (octets .entry))) × (r - i ≤ most) ⌝ }
