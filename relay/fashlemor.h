@@ -25,13 +25,13 @@ extern "C" {
 
 /* The version of these functions and of the record. A record is for the version that wrote it. */
 #define FASHLEMOR_VERSION_MAJOR 0
-#define FASHLEMOR_VERSION_MINOR 2
+#define FASHLEMOR_VERSION_MINOR 3
 
 /* The octets of a record. It is an image with no pointer in it, laid out in docs/RECORD.md: it may
  * be copied, kept and moved between calls, and needs no alignment; at a multiple of 64 a call costs
  * least. Octets behind these are neither read nor written. A record that is shorter, or whose
  * octets are no record (all zero, for example), is refused with 4. */
-#define FASHLEMOR_RECORD 1093
+#define FASHLEMOR_RECORD 1096
 
 /* The octets of a setup: the client's IPv6 address (16) and its mapped IPv4 address (4), both in
  * network order, and a sum of enum fashlemor_flag (1). */
@@ -108,7 +108,7 @@ uint8_t fashlemor_end(uint8_t *record, size_t record_length,
 /* Sets *offset to the octets written for a direction minus those taken from it, modulo 2^32: by how
  * much sequence numbers move on the way through. Answers 0, or 3 and sets nothing. The offset is
  * that of the record's counters, also where an arrival would be refused with 4. It is 0 where there
- * are fewer octets than a record, or one of the first seven has a value that docs/RECORD.md does
+ * are fewer octets than a record, or one of the first six has a value that docs/RECORD.md does
  * not list. */
 uint8_t fashlemor_offset(const uint8_t *record, size_t record_length,
                          uint64_t direction,

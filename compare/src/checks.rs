@@ -103,7 +103,7 @@ fn library_records(options: &Options) -> Compared {
             return Err(Failure::Differs(format!("seed {seed}: {finding}")));
         }
     }
-    match records::odd_lengths() {
+    match records::odd_lengths().or_else(records::odd_openings) {
         Some(finding) => Err(Failure::Differs(finding)),
         None => Ok(options.records),
     }

@@ -94,6 +94,8 @@ fn rooms(random: &mut Random) -> Rooms {
 struct Talk {
     client: [u8; 16],
     calls: Vec<Call>,
+    /// All that the server has said.
+    said: Vec<u8>,
 }
 
 impl Talk {
@@ -101,11 +103,15 @@ impl Talk {
         Talk {
             client: setup.client,
             calls: Vec::new(),
+            said: Vec::new(),
         }
     }
 
     fn says(&mut self, direction: u8, octets: &[u8]) {
         self.calls.push(Call::arrival(direction, octets));
+        if direction == SERVER {
+            self.said.extend(octets);
+        }
     }
 
     fn says_line(&mut self, random: &mut Random, direction: u8, content: &[u8]) {
@@ -117,17 +123,30 @@ impl Talk {
         if self.calls.is_empty() && random.percent(85) {
             self.greeting(random);
         }
+        if random.percent(60) {
+            self.end_reply(random);
+        }
         match random.below(100) {
-            0..=22 => self.exchange(random),
-            23..=43 => self.passive_exchange(random),
-            44..=49 => self.one_sided(random),
-            50..=58 => self.own_answer(random),
-            59..=66 => self.many_commands(random),
-            67..=74 => self.auth(random),
-            75..=86 => self.long_line(random),
-            87..=90 => self.many_replies(random),
-            91..=95 => self.ends(random),
+            0..=18 => self.exchange(random),
+            19..=35 => self.passive_exchange(random),
+            36..=40 => self.one_sided(random),
+            41..=48 => self.own_answer(random),
+            49..=55 => self.many_commands(random),
+            56..=62 => self.auth(random),
+            63..=71 => self.long_line(random),
+            72..=82 => self.several_lines(random),
+            83..=88 => self.line_of_no_form(random),
+            89..=91 => self.many_replies(random),
+            92..=95 => self.ends(random),
             _ => self.says(random.below(2) as u8, b""),
+        }
+    }
+
+    /// Ends the reply that is unfinished, so that what follows stands outside it.
+    fn end_reply(&mut self, random: &mut Random) {
+        if let Some(code) = lines::unfinished(&self.said) {
+            let line = lines::ender(random, code);
+            self.says(SERVER, &line);
         }
     }
 
@@ -161,21 +180,82 @@ impl Talk {
         };
         self.says_line(random, CLIENT, &command);
         let passive = lines::passive(random);
-        match random.below(12) {
-            0 => {
+        match random.below(20) {
+            0 | 1 => {
                 let reply = lines::long_reply(random, &passive);
                 self.says(SERVER, &reply);
             }
-            1 => {
+            2 => {
                 self.says(SERVER, b"150 wait\r\n");
                 self.says_line(random, SERVER, &passive);
             }
-            2 => {
+            3..=5 => {
+                self.says(SERVER, b"150-x\r\n227 x\r\n150 wait\r\n");
+                self.says_line(random, SERVER, &passive);
+            }
+            6 => {
                 let line = lines::filled(random, &passive);
                 self.says(SERVER, &line);
             }
-            3 => self.says_line(random, SERVER, b"500 no"),
+            7 => self.says_line(random, SERVER, b"500 no"),
+            8 => {
+                self.says(SERVER, b"214-x\r\n");
+                self.says_line(random, SERVER, &passive);
+                self.says(SERVER, b"214 x\r\n");
+                self.says_line(random, SERVER, &passive);
+            }
+            9 | 10 => {
+                let line = lines::of_no_form(random);
+                self.says_line(random, SERVER, &line);
+                self.says_line(random, SERVER, &passive);
+            }
             _ => self.says_line(random, SERVER, &passive),
+        }
+    }
+
+    /// A reply from its opening code to the same code and a space, with what arrives inside it.
+    fn several_lines(&mut self, random: &mut Random) {
+        if random.percent(50) {
+            self.says(CLIENT, random.pick(&[&b"NOOP\r\n"[..], b"EPSV\r\n"]));
+        }
+        let code = lines::opening_code(random);
+        let line = lines::opener(random, code);
+        self.says(SERVER, &line);
+        for _ in 0..random.below(5) {
+            if random.percent(25) {
+                let command = random.pick(&[&b"ALGS STATUS64\r\n"[..], b"EPSV 1\r\n", b"EPSV\r\n"]);
+                self.says(CLIENT, command);
+            } else {
+                let line = lines::inside(random, code);
+                self.says(SERVER, &line);
+            }
+        }
+        match random.below(12) {
+            0 => {}
+            1 => self.calls.push(Call::end(SERVER)),
+            2 => self.auth(random),
+            _ => self.end_reply(random),
+        }
+    }
+
+    /// A line that stands alone, and what it must not keep back, spoil or be counted for.
+    fn line_of_no_form(&mut self, random: &mut Random) {
+        if random.percent(40) {
+            self.says(CLIENT, random.pick(&[&b"NOOP\r\n"[..], b"EPSV\r\n"]));
+        }
+        for _ in 0..random.between(1, 3) {
+            let line = lines::of_no_form(random);
+            if random.percent(15) {
+                let line = lines::flowing(random, &line);
+                self.says(SERVER, &line);
+            } else {
+                self.says_line(random, SERVER, &line);
+            }
+        }
+        match random.below(3) {
+            0 => self.says(CLIENT, b"ALGS STATUS64\r\n"),
+            1 => self.says(SERVER, b"200 ok\r\n"),
+            _ => self.says(SERVER, b"227 x (192,0,2,31,237,19)\r\n"),
         }
     }
 
@@ -189,12 +269,13 @@ impl Talk {
         }
     }
 
-    /// A command that the gateway answers itself, at times inside a reply or behind others.
+    /// A command that the gateway answers itself, at times inside a reply, which keeps its answer
+    /// back, or behind a line that stands alone or is held, which don't, or behind others.
     fn own_answer(&mut self, random: &mut Random) {
-        if random.percent(30) {
+        if random.percent(40) {
             self.says(
                 SERVER,
-                random.pick(&[&b"211-x\r\n"[..], b"hello\r\n", b"22"]),
+                random.pick(&[&b"211-x\r\n"[..], b"hello\r\n", b"22", b"211-x"]),
             );
         }
         if random.percent(30) {
@@ -238,11 +319,24 @@ impl Talk {
         self.says(SERVER, &octets);
     }
 
-    /// AUTH, at times behind owed replies and with server octets held, and what follows it.
+    /// AUTH, at times behind owed replies, with server octets held or inside a reply, and what
+    /// follows it.
     fn auth(&mut self, random: &mut Random) {
         if random.percent(40) {
             self.exchange(random);
-            self.says(SERVER, random.pick(&[&b""[..], b"23", b"227 x (1,2,3"]));
+        }
+        if random.percent(60) {
+            self.says(
+                SERVER,
+                random.pick(&[
+                    &b"23"[..],
+                    b"227 x (1,2,3",
+                    b"214-x",
+                    b"150-",
+                    b"214-x\r\n",
+                    b"150-\r\n",
+                ]),
+            );
         }
         let command = lines::auth(random);
         if random.percent(15) {
@@ -293,14 +387,16 @@ impl Talk {
         self.calls.insert(place, call);
     }
 
-    /// With octets held, more often than not.
+    /// With octets held, more often than not, or inside a reply.
     fn ends(&mut self, random: &mut Random) {
         let side = random.below(2) as u8;
         if random.percent(60) {
-            self.says(
-                side,
-                random.pick(&[&b"EPS"[..], b"22", b"AUTH TLS", b"\r", b"227 x (1,2"]),
-            );
+            let held = if side == CLIENT {
+                random.pick(&[&b"EPS"[..], b"22", b"AUTH TLS", b"\r"])
+            } else {
+                random.pick(&[&b"22"[..], b"227 x (1,2", b"214-x", b"150-", b"214-x\r\n"])
+            };
+            self.says(side, held);
         }
         self.calls.push(Call::end(side));
     }
@@ -363,6 +459,7 @@ fn with_rests(random: &mut Random, setup: Setup, calls: Vec<Call>) -> Vec<Call> 
 mod tests {
     use super::*;
     use crate::gateways::Seen;
+    use crate::multi_line::{self, MultiLine};
 
     const MANY: u64 = 2000;
 
@@ -376,6 +473,7 @@ mod tests {
         passes_at_once: [bool; 2],
         flows: [bool; 2],
         held_at_end: bool,
+        replies: MultiLine,
     }
 
     fn contains(octets: &[u8], text: &[u8]) -> bool {
@@ -391,6 +489,7 @@ mod tests {
             for call in &session.calls {
                 let seen = reference.call(call);
                 reached.look(call, &seen);
+                reached.replies.look(call, &seen);
                 if call.direction < 2 {
                     let side = usize::from(call.direction);
                     reached.look_at_line(side, &mut unfinished[side], call, &seen);
@@ -432,11 +531,20 @@ mod tests {
         }
     }
 
-    /// Asks that at least 5 of 100 come to it.
-    fn often(name: &str, all: &[Reached], reached: impl Fn(&Reached) -> bool) {
+    /// Asks that at least one of so many comes to it.
+    fn reach(one_of: usize, name: &str, all: &[Reached], reached: impl Fn(&Reached) -> bool) {
         let count = all.iter().filter(|one| reached(one)).count();
-        println!("{name}: {count} of {}", all.len());
-        assert!(count * 20 >= all.len(), "{name}: {count} of {}", all.len());
+        let said = format!("{name}: {count} of {}", all.len());
+        println!("{said}");
+        assert!(count * one_of >= all.len(), "{said}");
+    }
+
+    fn often(name: &str, all: &[Reached], reached: impl Fn(&Reached) -> bool) {
+        reach(20, name, all, reached);
+    }
+
+    fn at_times(name: &str, all: &[Reached], reached: impl Fn(&Reached) -> bool) {
+        reach(150, name, all, reached);
     }
 
     fn everything_often(all: &[Reached]) {
@@ -454,6 +562,13 @@ mod tests {
         often("an end with octets held", all, |one| one.held_at_end);
         often("answer 1", all, |one| one.answers[1]);
         often("answer 6", all, |one| one.answers[6]);
+        for case in multi_line::CASES {
+            at_times(case, all, |one| one.replies.met.contains(case));
+        }
+        for line in multi_line::ALONE {
+            let case = multi_line::alone(line);
+            at_times(&case, all, |one| one.replies.met.contains(&case));
+        }
     }
 
     #[test]

@@ -104,27 +104,55 @@ const FINAL_REPLIES: [&[u8]; 14] = [
     b"200",
     b"530 ",
 ];
-const ODD_REPLIES: [&[u8]; 20] = [
+const ODD_REPLIES: [&[u8]; 14] = [
     b"150 wait",
     b"125 wait",
     b"120",
     b"100-wait",
-    b"600 x",
-    b"099 y",
-    b"220x",
+    b"150-wait",
+    b"214-help",
     b"220-multi",
     b"211-status",
-    b" mid",
-    b"",
-    b"hello",
-    b"22",
-    b"2200 x",
-    b"2a0 x",
-    b"\xff220 x",
+    b"227-x (1,2,3,4,5,6)",
     b"234 go",
     b"334 more",
     b"229 x (|||5|)",
+    b"214 end",
+    b"211 end",
+];
+/// Neither a whole reply nor the first line of one: outside a reply each stands alone.
+const OF_NO_FORM: [&[u8]; 13] = [
+    b"hello",
+    b"",
+    b" 220 x",
+    b"220x",
+    b"2200 x",
+    b"620 x",
+    b"620-x",
+    b"099-y",
+    b"22",
+    b"600",
+    b"2a0 x",
     b"\t220 x",
+    b"\xff220 x",
+];
+const OPENING_CODES: [[u8; 3]; 10] = [
+    *b"214", *b"214", *b"214", *b"211", *b"220", *b"150", *b"150", *b"120", *b"227", *b"500",
+];
+/// What may stand inside a reply beside its own code; a line of that code and a space ends it.
+const INSIDE: [&[u8]; 12] = [
+    b"220 bar is the rated pressure",
+    b"220 bar",
+    b"220-x",
+    b"214-x",
+    b"227 (1,2,3,4,5,6)",
+    b"227 (1,2,3,4,5,6)",
+    b"200",
+    b"150 wait",
+    b"600 x",
+    b" 214 x",
+    b"hello",
+    b"",
 ];
 const AUTH_REPLIES: [&[u8]; 8] = [
     b"234 go",
@@ -291,10 +319,15 @@ fn odd_address(random: &mut Random, client: [u8; 16]) -> Vec<u8> {
 pub fn reply(random: &mut Random) -> Vec<u8> {
     match random.below(10) {
         0..=3 => random.pick(&FINAL_REPLIES).to_vec(),
-        4..=6 => random.pick(&ODD_REPLIES).to_vec(),
+        4 | 5 => random.pick(&ODD_REPLIES).to_vec(),
+        6 => of_no_form(random),
         7 | 8 => passive(random),
         _ => garbage(random),
     }
+}
+
+pub fn of_no_form(random: &mut Random) -> Vec<u8> {
+    random.pick(&OF_NO_FORM).to_vec()
 }
 
 pub fn final_reply(random: &mut Random) -> Vec<u8> {
@@ -324,19 +357,79 @@ pub fn passive(random: &mut Random) -> Vec<u8> {
     [b"227", start, &numbers.join(between), tail].concat()
 }
 
-/// A reply of several lines, each with its end; the last one may be missing.
+pub fn opening_code(random: &mut Random) -> [u8; 3] {
+    random.pick(&OPENING_CODES)
+}
+
+/// The first line of a reply, with its end.
+pub fn opener(random: &mut Random, code: [u8; 3]) -> Vec<u8> {
+    let line = [&code[..], random.pick(&[&b"-"[..], b"-x", b"- x"])].concat();
+    of_either_length(random, &line)
+}
+
+/// A line that belongs to a reply, most of the time, with its end.
+pub fn inside(random: &mut Random, code: [u8; 3]) -> Vec<u8> {
+    let line = match random.below(8) {
+        0 | 1 => code.to_vec(),
+        2 => [&code[..], b"-again"].concat(),
+        3 => passive(random),
+        _ => random.pick(&INSIDE).to_vec(),
+    };
+    of_either_length(random, &line)
+}
+
+/// The line that ends a reply, with its end.
+pub fn ender(random: &mut Random, code: [u8; 3]) -> Vec<u8> {
+    let rest = random.pick(&[&b" "[..], b" end", b" (1,2,3,4,5,6)"]);
+    let line = [&code[..], rest].concat();
+    of_either_length(random, &line)
+}
+
+/// Short, or now and then so long that it flows.
+fn of_either_length(random: &mut Random, start: &[u8]) -> Vec<u8> {
+    if random.percent(20) {
+        return flowing(random, start);
+    }
+    [start, line_end(random)].concat()
+}
+
+/// A reply of several lines, each with its end. The last one may be missing, and where its code
+/// isn't the first one's it belongs to a reply that goes on.
 pub fn long_reply(random: &mut Random, last: &[u8]) -> Vec<u8> {
-    let code = last.get(..3).unwrap_or(b"211");
-    let code = if random.percent(80) { code } else { b"211" };
-    let mut lines = [code, b"-first\r\n"].concat();
+    let code = last.first_chunk().copied().unwrap_or(*b"211");
+    let code = if random.percent(80) { code } else { *b"211" };
+    let mut lines = opener(random, code);
     for _ in 0..random.below(3) {
-        lines.extend(random.pick(&[&b" mid\r\n"[..], b"\r\n", b"211-x\r\n", b"mid\n"]));
+        lines.extend(inside(random, code));
     }
     if random.percent(90) {
         lines.extend(last);
         lines.extend(line_end(random));
     }
     lines
+}
+
+/// The code of the reply that a server's text leaves unfinished.
+pub fn unfinished(text: &[u8]) -> Option<[u8; 3]> {
+    let lines = text.split(|&octet| octet == b'\n');
+    lines.fold(None, |open, line| match (open, line) {
+        (None, &[a @ b'1'..=b'5', b @ b'0'..=b'9', c @ b'0'..=b'9', b'-', ..]) => Some([a, b, c]),
+        (Some(code), &[a, b, c, b' ', ..]) if code == [a, b, c] => None,
+        _ => open,
+    })
+}
+
+/// A line over 512 octets, by little or by much.
+pub fn flowing(random: &mut Random, start: &[u8]) -> Vec<u8> {
+    let length = match random.below(4) {
+        0 => random.between(521, 1500),
+        _ => random.between(513, 520),
+    };
+    let end = random.pick(&[&b"\r\n"[..], b"\n"]);
+    let mut line = start.to_vec();
+    line.resize(length - end.len(), random.pick(b"   x"));
+    line.extend(end);
+    line
 }
 
 /// A line filled up to a length around 512, or well beyond.

@@ -11,6 +11,8 @@ mod findings;
 mod gateways;
 mod generate;
 mod lines;
+#[cfg(test)]
+mod multi_line;
 mod options;
 mod random;
 mod records;

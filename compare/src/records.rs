@@ -12,17 +12,18 @@ use crate::text::call_text;
 /// Where a record has its fields: the table in docs/RECORD.md.
 mod layout {
     pub const LIVE: usize = 0;
-    /// Five marks of 0 or 1, `live` first; two places of 0 to 3 follow.
-    pub const MARKS: usize = 5;
-    pub const CLIENT_PLACE: usize = 5;
-    pub const SERVER_PLACE: usize = 6;
+    /// Four marks of 0 or 1, `live` first; two places of 0 to 3 follow.
+    pub const MARKS: usize = 4;
+    pub const CLIENT_PLACE: usize = 4;
+    pub const SERVER_PLACE: usize = 5;
     /// Numbers of four octets, low octet first.
-    pub const OWED: usize = 7;
-    pub const CLIENT_HELD: usize = 11;
-    pub const SERVER_HELD: usize = 15;
+    pub const OPENING: usize = 6;
+    pub const OWED: usize = 10;
+    pub const CLIENT_HELD: usize = 14;
+    pub const SERVER_HELD: usize = 18;
     /// Taken and written of direction 0, then of direction 1.
-    pub const COUNTERS: [usize; 4] = [19, 23, 27, 31];
-    pub const KINDS: usize = 55;
+    pub const COUNTERS: [usize; 4] = [22, 26, 30, 34];
+    pub const KINDS: usize = 58;
 }
 
 const LAST_KIND: u8 = 8;
@@ -178,6 +179,29 @@ pub fn shaken(seed: u64) -> Option<String> {
     None
 }
 
+/// Opening codes that no line writes.
+const ODD_OPENINGS: [u32; 8] = [1, 99, 600, 999, 1000, 1214, 65536 + 214, u32::MAX];
+
+/// Number 4 refuses no opening code, and no line ends a reply that an odd one opened: the answer
+/// to ALGS waits for good.
+pub fn odd_openings() -> Option<String> {
+    let lines =
+        b"001 x\r\n099 x\r\n214 x\r\n600 x\r\n999 x\r\n227 (1,2,3,4,5,6)\r\n200\r\nhello\r\n";
+    ODD_OPENINGS.into_iter().find_map(|opening| {
+        let mut record = [0; fashlemor::RECORD];
+        raw::setup(&mut record, &[0; fashlemor::SETUP]);
+        put(&mut record, layout::OPENING, opening);
+        put(&mut record, layout::OWED, 0);
+        let mut ours = Ours::of_record(&record);
+        let asked = ours.call(&Call::arrival(0, b"ALGS STATUS64\r\n"));
+        let answered = ours.call(&Call::arrival(1, lines));
+        let waits = asked.answer == raw::DONE && asked.to_client.is_empty();
+        let passed = answered.answer == raw::DONE && answered.to_client == lines;
+        let said = format!("{}{}", asked.text(), answered.text());
+        (!waits || !passed).then(|| format!("a record with the opening code {opening}\n{said}"))
+    })
+}
+
 /// Memory that is longer than a record: its first octets are the record, the others stay.
 pub fn longer(seed: u64) -> Option<String> {
     let session = generate::list(seed);
@@ -273,12 +297,13 @@ mod tests {
     fn numbers_are_where_the_layout_has_them() {
         let mut record = [0; fashlemor::RECORD];
         raw::setup(&mut record, &[1; fashlemor::SETUP]);
-        let line = [b'x'; 300];
-        let called = raw::arrive(&mut record, raw::SERVER, &line, &mut [], &mut []);
+        let line = [&b"214-\n"[..], &[b'x'; 300]].concat();
+        let called = raw::arrive(&mut record, raw::SERVER, &line, &mut [], &mut [0; 5]);
         assert_eq!(called.answer, raw::DONE);
         let counters = layout::COUNTERS.map(|counter| number(&record, counter));
-        assert_eq!(counters, [0, 0, 300, 0]);
+        assert_eq!(counters, [0, 0, 305, 5]);
         assert_eq!(number(&record, layout::SERVER_HELD), 300);
+        assert_eq!(number(&record, layout::OPENING), 214);
         assert_eq!(number(&record, layout::OWED), 1);
     }
 }

@@ -1,14 +1,16 @@
 //! A reference for the FTP gateway of document 01: an ordinary gateway in safe Rust.
 //!
 //! It is written to be read next to document 01 and to be compared, call by call, with any other
-//! gateway that follows the same rules. Quoted sentences are document 01's. It takes octets by
-//! lines and by runs where document 01 speaks of single ones: a step measures what the octet that
-//! ends it writes, so it stops just where that octet would, and nothing is taken back.
+//! gateway that follows the same rules. Request 1 of document 02 is built: multi-line replies end
+//! by their own code. Quoted sentences are document 01's, or request 1's where it replaces them.
+//! It takes octets by lines and by runs where document 01 speaks of single ones: a step measures
+//! what the octet that ends it writes, so it stops just where that octet would, and nothing is
+//! taken back.
 //!
 //! - [`lines`]: where a line ends, content, argument, numbers
 //! - [`address`]: IPv6 text
 //! - [`commands`]: what a client line becomes and what is owed for it
-//! - [`replies`]: what a server line says and when it becomes a 229
+//! - [`replies`]: what a server line is to its reply, and when it becomes a 229
 //! - [`made`]: the lines that the gateway makes
 //! - [`queue`]: the replies owed
 //! - [`output`]: the lent buffers

@@ -1,31 +1,89 @@
-//! Server lines: which of them end a reply, and the 229 that a readable 227 becomes.
+//! Server lines: which of them open, hold and end a reply, and the 229 that a readable 227
+//! becomes.
 
 use crate::lines::octet_number;
 use crate::made::MadeLine;
 
-/// Code of a line that ends a reply.
+/// Code of a reply: "a digit 1 to 5, two digits".
 #[derive(Clone, Copy, Debug, PartialEq, Eq)]
 pub struct Code([u8; 3]);
 
 impl Code {
-    /// "A line whose content starts with a digit 1 to 5, two digits, and then a space or the
-    /// end, ends a reply." The content's first four octets are enough to tell.
-    pub fn read(content: &[u8]) -> Option<Code> {
-        match *content {
-            [a, b, c] | [a, b, c, b' ', ..] => Code::of_digits([a, b, c]),
-            _ => None,
-        }
-    }
-
     fn of_digits(digits: [u8; 3]) -> Option<Code> {
         let [first, ..] = digits;
         let reads = (b'1'..=b'5').contains(&first) && digits.iter().all(u8::is_ascii_digit);
         reads.then_some(Code(digits))
     }
 
+    /// The three digits, as they came.
+    pub fn digits(self) -> [u8; 3] {
+        self.0
+    }
+
     /// "First digit 2 to 5 also removes the first owed kind."
     pub fn is_final(self) -> bool {
         self.0[0] != b'1'
+    }
+}
+
+/// What a server line is to the reply that it stands in, or to none.
+#[derive(Clone, Copy, Debug, PartialEq, Eq)]
+pub enum Role {
+    /// The first line of "a reply opened with a code and a hyphen".
+    Opens(Code),
+    /// "Lines between, whatever their digits, belong to it": to the reply opened with this code.
+    Belongs(Code),
+    /// The last line of a reply, or a whole one.
+    Ends(Code),
+    /// "A line of none of these forms passes, ends at its LF and removes nothing."
+    StandsAlone,
+}
+
+impl Role {
+    /// The role of a line with this content, or of a flowing one with this start, where a reply
+    /// opened with the code is unfinished, or none. Four octets are enough to tell: "A flowing
+    /// line is judged by its first four octets."
+    pub fn of(start: &[u8], unfinished: Option<Code>) -> Role {
+        match unfinished {
+            Some(code) => Role::inside(start, code),
+            None => Role::outside(start),
+        }
+    }
+
+    /// "A reply opened with a code and a hyphen ends only at the same code and a space", so a
+    /// bare code does not end it, and no line opens another.
+    fn inside(start: &[u8], code: Code) -> Role {
+        let [a, b, c] = code.0;
+        if start.first_chunk() == Some(&[a, b, c, b' ']) {
+            Role::Ends(code)
+        } else {
+            Role::Belongs(code)
+        }
+    }
+
+    /// "Outside such a reply a bare code is still a whole reply", and so is a code and a space.
+    fn outside(start: &[u8]) -> Role {
+        let Some((&digits, behind)) = start.split_first_chunk() else {
+            return Role::StandsAlone;
+        };
+        match (Code::of_digits(digits), behind) {
+            (Some(code), [] | [b' ', ..]) => Role::Ends(code),
+            (Some(code), [b'-', ..]) => Role::Opens(code),
+            _ => Role::StandsAlone,
+        }
+    }
+
+    /// The opening code of the reply that is unfinished from the line's LF on.
+    pub fn unfinished(self) -> Option<Code> {
+        match self {
+            Role::Opens(code) | Role::Belongs(code) => Some(code),
+            Role::Ends(_) | Role::StandsAlone => None,
+        }
+    }
+
+    /// Whether the line ends a reply whose first digit is 2 to 5.
+    pub fn ends_final(self) -> bool {
+        matches!(self, Role::Ends(code) if code.is_final())
     }
 }
 

@@ -3,8 +3,8 @@
 use crate::lines::{content, find_lf};
 use crate::output::{Given, Output, Step};
 use crate::queue::{Owed, Queue};
-use crate::replies::{extended_passive, Code};
-use crate::side::{Place, Reach, Side};
+use crate::replies::{extended_passive, Code, Role};
+use crate::side::{Place, Reach, Side, Start};
 
 /// After each octet the queue is settled: no own answer stands at its head that may be written,
 /// and where AUTH does, the server's octets pass at once.
@@ -12,12 +12,14 @@ use crate::side::{Place, Reach, Side};
 pub struct Server {
     pub side: Side,
     owed: Queue,
-    reply_unfinished: bool,
+    /// "The record keeps the opening code" of the reply that is unfinished.
+    unfinished: Option<Code>,
 }
 
-/// What the LF of a server line does to the queue.
+/// What the LF of a server line does to the reply and to the queue.
 struct LineEnd {
-    ends_reply: bool,
+    /// The opening code of the reply that is unfinished then.
+    unfinished: Option<Code>,
     /// The first owed kind, if the line removes it.
     removed: Option<Owed>,
     /// Octets of the own answers that follow.
@@ -29,7 +31,7 @@ impl Server {
         Server {
             side: Side::fresh(),
             owed: Queue::fresh(),
-            reply_unfinished: false,
+            unfinished: None,
         }
     }
 
@@ -42,7 +44,7 @@ impl Server {
     pub fn step(&mut self, octets: &[u8], to_client: &mut Output) -> Step {
         match self.side.place {
             Place::Holding => self.hold(octets, to_client),
-            Place::Flowing(start) => self.flow(Code::read(&start), octets, to_client),
+            Place::Flowing(start) => self.flow(start, octets, to_client),
             Place::PassingAtOnce | Place::Ended => to_client.pass(octets),
         }
     }
@@ -67,14 +69,14 @@ impl Server {
     }
 
     /// The LF of a line judged whole, of which `last` are the last octets before it. A 227
-    /// becomes a 229 if it answers a translated EPSV "and no earlier line belongs to its reply".
-    /// "All other server lines pass."
+    /// becomes a 229 if it answers a translated EPSV "and no earlier line belongs to its reply":
+    /// none is unfinished. "All other server lines pass."
     fn finish_line(&mut self, last: &[u8], to_client: &mut Output) -> Step {
         let text = self.side.join(last);
         let content = content(text);
-        let end = line_end(&self.owed, Code::read(content));
+        let end = line_end(&self.owed, Role::of(content, self.unfinished));
         let made = match end.removed {
-            Some(Owed::TranslatedEpsv) if !self.reply_unfinished => extended_passive(content),
+            Some(Owed::TranslatedEpsv) if self.unfinished.is_none() => extended_passive(content),
             _ => None,
         };
         let given = made.map_or(Given::Line, Given::Made);
@@ -88,12 +90,12 @@ impl Server {
     }
 
     /// "The rest of that line flows unchanged", and it "counts when its LF passes".
-    fn flow(&mut self, code: Option<Code>, octets: &[u8], to_client: &mut Output) -> Step {
+    fn flow(&mut self, start: Start, octets: &[u8], to_client: &mut Output) -> Step {
         let fitting = &octets[..octets.len().min(to_client.room())];
         let Some(lf) = find_lf(fitting) else {
             return to_client.pass(octets);
         };
-        let end = line_end(&self.owed, code);
+        let end = line_end(&self.owed, Role::of(&start, self.unfinished));
         if lf + 1 + end.answers > to_client.room() {
             to_client.write(&octets[..lf]);
             return Step::waits_after(lf);
@@ -105,7 +107,7 @@ impl Server {
 
     fn pass_line_end(&mut self, end: LineEnd, to_client: &mut Output) {
         self.side.go_on(Place::Holding);
-        self.reply_unfinished = !end.ends_reply;
+        self.unfinished = end.unfinished;
         if end.removed.is_some() {
             self.owed.pop();
         }
@@ -151,26 +153,25 @@ impl Server {
     /// "Unless a reply is unfinished, a server line is flowing, or the server direction has
     /// ended." Held octets do not keep own answers back.
     fn answers_wait(&self) -> bool {
-        self.reply_unfinished || matches!(self.side.place, Place::Flowing(_) | Place::Ended)
+        self.unfinished.is_some() || matches!(self.side.place, Place::Flowing(_) | Place::Ended)
     }
 }
 
 /// "First digit 2 to 5 also removes the first owed kind, unless none is owed or it is the
-/// gateway's own answer." Where a line ends a reply, nothing keeps back the own answers that are
-/// then first.
-fn line_end(owed: &Queue, code: Option<Code>) -> LineEnd {
-    let ends_reply = code.is_some();
+/// gateway's own answer." Where a line leaves no reply unfinished, nothing keeps back the own
+/// answers that are then first.
+fn line_end(owed: &Queue, role: Role) -> LineEnd {
+    let unfinished = role.unfinished();
     let removed = match owed.head() {
         Some(Owed::Own(_)) => None,
-        head => head.filter(|_| code.is_some_and(Code::is_final)),
+        head => head.filter(|_| role.ends_final()),
     };
-    let answers = if ends_reply {
-        owed.own_answers(usize::from(removed.is_some()))
-    } else {
-        0
+    let answers = match unfinished {
+        Some(_) => 0,
+        None => owed.own_answers(usize::from(removed.is_some())),
     };
     LineEnd {
-        ends_reply,
+        unfinished,
         removed,
         answers,
     }

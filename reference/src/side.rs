@@ -6,7 +6,8 @@ use crate::output::Output;
 /// A line of one octet more is let go at its last.
 const MOST_HELD: usize = LONGEST_JUDGED_WHOLE - 1;
 
-/// The first octets of a line that flows: enough to tell AUTH and a space, or a code and a space.
+/// The first octets of a line that flows: enough to tell AUTH and a space, or a code and what
+/// follows it.
 pub type Start = [u8; 5];
 
 /// Where a direction stands.

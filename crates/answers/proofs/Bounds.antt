@@ -152,9 +152,11 @@ module _ (f : Fixed) (size : length (f .mapped) ≡ ipv4Width) (octets : every i
   head-line less Owes.Nothing c = held-line less
   head-line less (Owes.One k) c = kind-line less k c
 
-  whole-line : length h < judged → (r : ReplyLine) (u : Bool) (o : Owes) (c : List ℕ) → Line (lineGives f r u o c)
+  whole-line : length h < judged → (r : ReplyLine) (u : ℕ) (o : Owes) (c : List ℕ) → Line (lineGives f r u o c)
   unfolding lineGives
-  whole-line less ReplyLine.GoesOn u o c = held-line less
+  whole-line less (ReplyLine.Opens code) u o c = held-line less
+  whole-line less ReplyLine.Belongs u o c = held-line less
+  whole-line less ReplyLine.StandsAlone u o c = held-line less
   whole-line less ReplyLine.Preliminary u o c = held-line less
   whole-line less ReplyLine.Final u o c = either Line _ _ _ (held-line less) (head-line less o c)
 
@@ -162,16 +164,16 @@ module _ (f : Fixed) (size : length (f .mapped) ≡ ipv4Width) (octets : every i
   record ServerLine (e : ServerEffect) : Type 0 where
     together : length (givesText f h x (e .gives)) + e .direction .held ≤ judged
 
-  next-line : length h < judged → (u : Bool) (held : ℕ) → ServerLine (replyOctet u held)
+  next-line : length h < judged → (u : ℕ) (held : ℕ) → ServerLine (replyOctet u held)
   unfolding replyOctet givesText
   next-line less u held =
       by-test ServerLine _ _ _ (λ e. record { together = omega (arith, ltb-true (held + 1) judged e) })
       (λ e. record { together = omega (arith, held-line less .most) })
 
-  reply-line : length h < judged → (u : Bool) (o : Owes) (p : Place) (held : ℕ) (line : List ℕ) (b : Bool) → ServerLine (replyEffect f u o p held line b)
+  reply-line : length h < judged → (u : ℕ) (o : Owes) (p : Place) (held : ℕ) (line : List ℕ) (b : Bool) → ServerLine (replyEffect f u o p held line b)
   unfolding replyEffect wholeLine flowingLine
   reply-line less u o Place.Holding held line true =
-      let c : List ℕ = content (take held line) in record { together = omega (arith, whole-line less (replyLine c) u o c .most) }
+      let c : List ℕ = content (take held line) in record { together = omega (arith, whole-line less (replyLine u c) u o c .most) }
   reply-line less u o Place.Holding held line false = next-line less u held
   reply-line less u o Place.Flowing held line true = record { together = omega (arith, octet-line .most) }
   reply-line less u o Place.Flowing held line false = record { together = omega (arith, octet-line .most) }
@@ -236,7 +238,7 @@ module _ (f : Fixed) (size : length (f .mapped) ≡ ipv4Width) (octets : every i
       let e : ServerEffect = serverEffectIn f s x in
       let less : length h < judged = omega (arith, take-most (d .held) (s .reply), sm .server) in
       let given : ServerLine f size octets h x e =
-      reply-line f size octets h x less (s .control .unfinished) (headOf (s .kinds) (s .control .owed)) (d .place) (d .held) (s .reply) (eqb x lf) in
+      reply-line f size octets h x less (s .control .opening) (headOf (s .kinds) (s .control .owed)) (d .place) (d .held) (s .reply) (eqb x lf) in
       record {
         toServer = omega arith;
         toClient = simp length-append (omega (arith, given .together, settled-most (serverState s x e) (e .removes), sm .owed));

@@ -4,14 +4,14 @@ use mathlib.Core.Bool.{Bool, true, false}
 use mathlib.Core.List.{List, [], _∷_}
 use mathlib.Core.Logic.{inl, inr}
 use mathlib.Core.Option.{Option}
-use Prim.Native.Nat.{ℕ, zero, suc, _+_, _-_, _≤_, _<_}
+use Prim.Native.Nat.{ℕ, zero, suc, _+_, _-_, _^_, _≤_, _<_}
 use native.Mathlib.Omega.{arith}
 use lib.Dec.{eqb, leb, lit≤}
 use lib.ListN.{length, take, getD, length-replicate, getD-replicate}
 use borrow.Author.Tests.{ltb-true}
 use Rattle.rules.specs.Octets.{lf, every}
 use Rattle.rules.specs.Answers.{Side, client, server, sideOf, mostOwed, isQueueFull}
-use Rattle.rules.specs.Lines.{mostHeld, judged}
+use Rattle.rules.specs.Lines.{mostHeld, judged, content}
 use Rattle.rules.specs.declared.Switches.{Switches}
 use Rattle.rules.specs.declared.Answer.{Answer}
 use Rattle.places.specs.declared.Place.{Place}
@@ -23,6 +23,7 @@ use Rattle.queue.specs.Kinds.{headOf, pushed}
 use Rattle.upstream.specs.Upstream.{judgedEffect, joinEffect, placeEffect, clientEffect}
 use Rattle.downstream.specs.Downstream.{wholeLine, flowingLine, replyOctet, replyEffect, serverEffect}
 use Rattle.octets.proofs.Choices.{either, by-test}
+use Rattle.replies.proofs.Codes.{opening-low}
 use Rattle.queue.proofs.Listed.{Listed, listed-push, listed-leave}
 use Rattle.rules.specs.declared.Fixed.{Fixed}
 use Rattle.rules.specs.declared.Setup.{Setup}
@@ -75,6 +76,7 @@ record ClientSound (e : ClientEffect) : Type 0 where
 
 record ServerSound (e : ServerEffect) : Type 0 where
   direction : SoundDirection (e .direction)
+  opening : e .opening < 2 ^ 32
 
 -- a line that is judged, let go or passed leaves nothing held
 none-held : (p : Place) → SoundDirection (record { place = p; held = 0 })
@@ -95,15 +97,18 @@ place-sound f sw Place.Flowing n h false = record { direction = none-held _ }
 place-sound f sw Place.Passing n h b = record { direction = none-held _ }
 place-sound f sw Place.Ended n h b = record { direction = none-held _ }
 
-reply-sound : (f : Fixed) (u : Bool) (o : Owes) (p : Place) (n : ℕ) (line : List ℕ) (b : Bool) → ServerSound (replyEffect f u o p n line b)
+reply-sound : (f : Fixed) (u : ℕ) (o : Owes) (p : Place) (n : ℕ) (line : List ℕ) (b : Bool) → u < 2 ^ 32 → ServerSound (replyEffect f u o p n line b)
 unfolding replyEffect wholeLine flowingLine replyOctet
-reply-sound f u o Place.Holding n line true = record { direction = none-held _ }
-reply-sound f u o Place.Holding n line false =
-    by-test ServerSound _ _ _ (λ e. record { direction = one-more n (ltb-true (n + 1) judged e) }) (λ e. record { direction = none-held _ })
-reply-sound f u o Place.Flowing n line true = record { direction = none-held _ }
-reply-sound f u o Place.Flowing n line false = record { direction = none-held _ }
-reply-sound f u o Place.Passing n line b = record { direction = none-held _ }
-reply-sound f u o Place.Ended n line b = record { direction = none-held _ }
+reply-sound f u o Place.Holding n line true low =
+    record { direction = none-held _; opening = opening-low u (content (take n line)) (2 ^ 32) (lit≤ tt) low }
+reply-sound f u o Place.Holding n line false low =
+    by-test ServerSound _ _ _ (λ e. record { direction = one-more n (ltb-true (n + 1) judged e); opening = low })
+    (λ e. record { direction = none-held _; opening = low })
+reply-sound f u o Place.Flowing n line true low =
+    record { direction = none-held _; opening = opening-low u (take 4 line) (2 ^ 32) (lit≤ tt) low }
+reply-sound f u o Place.Flowing n line false low = record { direction = none-held _; opening = low }
+reply-sound f u o Place.Passing n line b low = record { direction = none-held _; opening = low }
+reply-sound f u o Place.Ended n line b low = record { direction = none-held _; opening = low }
 
 passes-sound : (d : Direction) (p : Place) → SoundDirection d → SoundDirection (directionFromNow d p)
 passes-sound d Place.Holding h = none-held _
@@ -125,6 +130,7 @@ pub record Kept (s : State) : Type 0 where
   pub server : SoundDirection (s .control .server)
   pub command : length (s .command) ≡ mostHeld
   pub reply : length (s .reply) ≡ mostHeld
+  pub opening : s .control .opening < 2 ^ 32
 
 settled-kept : (s : State) (n : ℕ) → Kept s → Kept (settledState s n)
 unfolding settledState
@@ -136,6 +142,7 @@ settled-kept s n h =
       server = either SoundDirection (isAuthNext s n) (directionFromNow d (d .place)) d (passes-sound d (d .place) (h .server)) (h .server);
       command = h .command;
       reply = h .reply;
+      opening = h .opening;
     }
 
 -- the octet's own effect
@@ -153,6 +160,7 @@ client-turned f s x h notFull =
       server = h .server;
       command = length-stored (s .command) (d .held) x (e .gives) ∙ h .command;
       reply = h .reply;
+      opening = h .opening;
     }
 
 server-turned : (f : Fixed) (s : State) (x : ℕ) → Kept s → Kept (serverState s x (serverEffectIn f s x))
@@ -160,12 +168,14 @@ unfolding serverState serverEffectIn serverEffect
 server-turned f s x h =
     let d : Direction = s .control .server in
     let e : ServerEffect = serverEffectIn f s x in
+    let sound = reply-sound f (s .control .opening) (headOf (s .kinds) (s .control .owed)) (d .place) (d .held) (s .reply) (eqb x lf) (h .opening) in
     record {
       queue = h .queue;
       client = h .client;
-      server = reply-sound f (s .control .unfinished) (headOf (s .kinds) (s .control .owed)) (d .place) (d .held) (s .reply) (eqb x lf) .direction;
+      server = sound .direction;
       command = h .command;
       reply = length-stored (s .reply) (d .held) x (e .gives) ∙ h .reply;
+      opening = sound .opening;
     }
 
 octet-kept : (f : Fixed) (d : Side) (s : State) (x : ℕ) → Kept s → isQueueFull d (isPassing (s .control .client .place)) (s .control .owed) ≡ false
@@ -209,6 +219,7 @@ kept s shape w =
       server = w .server;
       command = shape .command;
       reply = shape .reply;
+      opening = shape .opening;
     }
 
 small : (s : State) → Kept s → Small s
@@ -247,7 +258,7 @@ session-kept : (s : Session) (d : Side) (k a b : ℕ) (t : State) → Shaped s �
     → Shaped (sessionAfter s d k a b t) × Sound (sessionAfter s d k a b t)
 unfolding sessionAfter
 session-kept s d k a b t shape w h = (
-  record { mapped = shape .mapped; octets = shape .octets; command = h .command; reply = h .reply; kinds = h .queue .size },
+  record { mapped = shape .mapped; octets = shape .octets; command = h .command; reply = h .reply; kinds = h .queue .size; opening = h .opening },
   record {
     live = w .live;
     owed = h .queue .most;
@@ -259,8 +270,8 @@ session-kept s d k a b t shape w h = (
 
 end-kept : (d : Side) (s : State) → Kept s → Kept (endStep d s .state)
 unfolding endStep
-end-kept client s h = record { queue = h .queue; client = none-held _; server = h .server; command = h .command; reply = h .reply }
-end-kept server s h = record { queue = h .queue; client = h .client; server = none-held _; command = h .command; reply = h .reply }
+end-kept client s h = record { queue = h .queue; client = none-held _; server = h .server; command = h .command; reply = h .reply; opening = h .opening }
+end-kept server s h = record { queue = h .queue; client = h .client; server = none-held _; command = h .command; reply = h .reply; opening = h .opening }
 
 module _ (c : Situation) (shape : Shaped (c .session)) (w : Sound (c .session)) where
   abbrev Stays : Outcome → Type 0
@@ -311,6 +322,7 @@ fresh-kept su size octets = (
     command = length-replicate {A = ℕ} mostHeld 0;
     reply = length-replicate {A = ℕ} mostHeld 0;
     kinds = length-replicate {A = ℕ} mostOwed 0;
+    opening = omega arith;
   },
   record {
     live = refl;

@@ -12,12 +12,12 @@ pub either-true : (a : Bool) {b : Bool} → b ≡ true → (a || b) ≡ true
 either-true true e = refl
 either-true false e = e
 
-module _ (kinds : List ℕ) (unfinished : Bool) (n owed : ℕ) (some : n ≡ 0 → ⊥) where
+module _ (kinds : List ℕ) (inside : Bool) (n owed : ℕ) (some : n ≡ 0 → ⊥) where
   -- a 227 is to be read
-  pub keeps-not : unfinished ≡ false → isPlainFirst kinds ≡ false → false ≡ keepsStill kinds unfinished n owed
+  pub keeps-not : inside ≡ false → isPlainFirst kinds ≡ false → false ≡ keepsStill kinds inside n owed
   unfolding keepsStill choose
   keeps-not u first = rw (ne-eqb n 0 some, u, first)
 
-  pub keeps-behind : (unfinished || isPlainFirst kinds) ≡ true → isStill kinds n owed ≡ keepsStill kinds unfinished n owed
+  pub keeps-behind : (inside || isPlainFirst kinds) ≡ true → isStill kinds n owed ≡ keepsStill kinds inside n owed
   unfolding keepsStill choose
   keeps-behind none = rw (ne-eqb n 0 some, none)

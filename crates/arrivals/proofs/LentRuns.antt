@@ -60,7 +60,7 @@ module _ (f : Fixed) (d : Side) (l : List ℕ) (c : Control) (lines kinds sb cb 
 
   pub reply-ran : {r : DirectionRun} {line out : List ℕ} {c′ : Control} → d ≡ server
       → DirectionRan l i (c .server) (midOf mostHeld (length lines - mostHeld) lines) cb (w .client) r line out
-      → c′ ≡ withServer c (r .direction) (c .owed) (c .unfinished)
+      → c′ ≡ withServer c (r .direction) (c .owed) (c .opening)
       → Ran f d l k i (coreIn c′ (putMid mostHeld (length lines - mostHeld) lines line) kinds sb out (record { server = w .server; client = r .at })) (r .taken)
   reply-ran {r} {line} {out} {c′} same ran built =
       subst (λ (s : State). Ran f d l k i (coreFrom s sb out (record { server = w .server; client = r .at })) (r .taken))

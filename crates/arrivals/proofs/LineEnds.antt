@@ -49,7 +49,7 @@ module _ (f : Fixed) (s : State) (place : s .control .client .place ≡ Place.Ho
   plainNext =
       let c = s .control in
       record {
-        control = record { switches = c .switches; client = at Place.Holding 0; server = c .server; owed = c .owed + 1; unfinished = c .unfinished };
+        control = record { switches = c .switches; client = at Place.Holding 0; server = c .server; owed = c .owed + 1; opening = c .opening };
         command = s .command;
         reply = s .reply;
         kinds = set (s .kinds) (c .owed) 0;

@@ -86,7 +86,7 @@ module _ {l : List ℕ} {i held owed : ℕ} {lent out : List ℕ} {at : ℕ} {r 
         client = start;
         server = start;
         owed = 0;
-        unfinished = false;
+        opening = 0;
       })
       [] 0 (omega arith) .inside
 

@@ -12,7 +12,7 @@ use borrow.Author.Tests.{leb-true, leb-false, ltb-true, eqb-true, eqb-false, le-
 use borrow.Rule.Slice.PartMut.{putMid, midOf}
 use Rattle.rules.specs.Octets.{choose, lf, every, isNot}
 use Rattle.rules.specs.Lines.{content, mostHeld}
-use Rattle.rules.specs.Replies.{replyLine, leavesUnfinished, headAnswers, authAtHead}
+use Rattle.rules.specs.Replies.{isOpen, replyLine, openingAfter, headAnswers, authAtHead}
 use Rattle.rules.specs.Answers.{client, server, isQueueFull, mostOwed}
 use Rattle.rules.specs.declared.ReplyLine.{ReplyLine}
 use Rattle.records.specs.Layout.{lentKinds, lentCommand, lentReply, lentSize}
@@ -67,7 +67,7 @@ module _ (s : State) (n : ℕ) (size : s .control .owed ≤ length (s .kinds)) (
   abbrev without : State
   without =
       let c = s .control in
-      stateFrom (record { switches = c .switches; client = c .client; server = c .server; owed = c .owed - n; unfinished = c .unfinished })
+      stateFrom (record { switches = c .switches; client = c .client; server = c .server; owed = c .owed - n; opening = c .opening })
       (s .command) (s .reply) (shifted (s .kinds) n (c .owed))
 
   still-state : settledState s n ≡ without
@@ -75,7 +75,7 @@ module _ (s : State) (n : ℕ) (size : s .control .owed ≤ length (s .kinds)) (
   still-state =
       let c = s .control in
       let stays = choose-false (directionFromNow (c .server) (c .server .place)) (c .server) still-next in
-      λ i. stateFrom (record { switches = c .switches; client = c .client; server = stays i; owed = c .owed - still-leaving i; unfinished = c .unfinished })
+      λ i. stateFrom (record { switches = c .switches; client = c .client; server = stays i; owed = c .owed - still-leaving i; opening = c .opening })
       (s .command) (s .reply) (shifted (s .kinds) (still-leaving i) (c .owed))
 
   still-text : settledText s n ≡ []
@@ -115,7 +115,7 @@ plain-effect : (f : Fixed) (m : ℕ) → m ≡ 0 → (c : List ℕ) → kindEffe
 unfolding kindEffect kindOf choose
 plain-effect f m e c = rw e
 
-module _ (kinds : List ℕ) (u : Bool) (owed : ℕ) (still : isStill kinds 0 owed ≡ true) where
+module _ (kinds : List ℕ) (u : ℕ) (owed : ℕ) (still : isStill kinds 0 owed ≡ true) where
   first-low : eqb owed 0 ≡ false → getD kinds 0 0 < 2
   unfolding isStill
   first-low e =
@@ -133,7 +133,9 @@ module _ (kinds : List ℕ) (u : Bool) (owed : ℕ) (still : isStill kinds 0 owe
 
   line-removes : (r : ReplyLine) → lineRemoves r (headOf kinds owed) ≡ plainRemoves r owed
   unfolding lineRemoves plainRemoves headOf
-  line-removes ReplyLine.GoesOn = refl
+  line-removes (ReplyLine.Opens code) = refl
+  line-removes ReplyLine.Belongs = refl
+  line-removes ReplyLine.StandsAlone = refl
   line-removes ReplyLine.Preliminary = refl
   line-removes ReplyLine.Final = final-removes (eqb owed 0) refl
 
@@ -145,23 +147,27 @@ module _ (kinds : List ℕ) (u : Bool) (owed : ℕ) (still : isStill kinds 0 owe
   final-gives f c false true h = refl
   final-gives f c false false h = plain-effect f (getD kinds 0 0) (eqb-true (getD kinds 0 0) 0 (and-both (isPlainFirst kinds) (isStill kinds 1 owed) h .0)) c
 
-  line-gives : (f : Fixed) (r : ReplyLine) (c : List ℕ) → keepsStill kinds u (plainRemoves r owed) owed ≡ true → lineGives f r u (headOf kinds owed) c ≡ Gives.HeldAndOctet
+  line-gives : (f : Fixed) (r : ReplyLine) (c : List ℕ) → keepsStill kinds (isOpen u) (plainRemoves r owed) owed ≡ true → lineGives f r u (headOf kinds owed) c ≡ Gives.HeldAndOctet
   unfolding lineGives plainRemoves headOf
-  line-gives f ReplyLine.GoesOn c h = refl
+  line-gives f (ReplyLine.Opens code) c h = refl
+  line-gives f ReplyLine.Belongs c h = refl
+  line-gives f ReplyLine.StandsAlone c h = refl
   line-gives f ReplyLine.Preliminary c h = refl
-  line-gives f ReplyLine.Final c h = final-gives f c (eqb owed 0) u h
+  line-gives f ReplyLine.Final c h = final-gives f c (eqb owed 0) (isOpen u) h
 
   -- the queue is still behind what leaves
-  kept-still : (n : ℕ) → keepsStill kinds u n owed ≡ true → isStill kinds n owed ≡ true
+  kept-still : (n : ℕ) → keepsStill kinds (isOpen u) n owed ≡ true → isStill kinds n owed ≡ true
   unfolding keepsStill
   kept-still zero h = still
   kept-still (suc n) h =
-      let both : Bool = (u || isPlainFirst kinds) && isStill kinds (suc n) owed in
-      and-both (u || isPlainFirst kinds) (isStill kinds (suc n) owed) (sym (choose-false true both (eqb·suc-zero n)) ∙ h) .1
+      let both : Bool = (isOpen u || isPlainFirst kinds) && isStill kinds (suc n) owed in
+      and-both (isOpen u || isPlainFirst kinds) (isStill kinds (suc n) owed) (sym (choose-false true both (eqb·suc-zero n)) ∙ h) .1
 
 pub removes-within : (r : ReplyLine) (owed : ℕ) → plainRemoves r owed ≤ owed
 unfolding plainRemoves choose
-removes-within ReplyLine.GoesOn owed = omega arith
+removes-within (ReplyLine.Opens code) owed = omega arith
+removes-within ReplyLine.Belongs owed = omega arith
+removes-within ReplyLine.StandsAlone owed = omega arith
 removes-within ReplyLine.Preliminary owed = omega arith
 removes-within ReplyLine.Final zero = omega arith
 removes-within ReplyLine.Final (suc n) = rw (eqb·suc-zero n) (omega arith)
@@ -169,8 +175,8 @@ removes-within ReplyLine.Final (suc n) = rw (eqb·suc-zero n) (omega arith)
 -- ---- the LF of a plain line
 
 module _ (f : Fixed) (s : State) (place : s .control .server .place ≡ Place.Holding) (still : isStill (s .kinds) 0 (s .control .owed) ≡ true)
-    (size : s .control .owed ≤ length (s .kinds)) (r : ReplyLine) (read : r ≡ replyLine (content (take (s .control .server .held) (s .reply))))
-    (keeps : keepsStill (s .kinds) (s .control .unfinished) (plainRemoves r (s .control .owed)) (s .control .owed) ≡ true) where
+    (size : s .control .owed ≤ length (s .kinds)) (r : ReplyLine) (read : r ≡ replyLine (s .control .opening) (content (take (s .control .server .held) (s .reply))))
+    (keeps : keepsStill (s .kinds) (isOpen (s .control .opening)) (plainRemoves r (s .control .owed)) (s .control .owed) ≡ true) where
   abbrev n : ℕ
   n = plainRemoves r (s .control .owed)
 
@@ -178,28 +184,28 @@ module _ (f : Fixed) (s : State) (place : s .control .server .place ≡ Place.Ho
   abbrev ended : State
   ended =
       let c = s .control in
-      stateFrom (record { switches = c .switches; client = c .client; server = at Place.Holding 0; owed = c .owed; unfinished = leavesUnfinished r })
+      stateFrom (record { switches = c .switches; client = c .client; server = at Place.Holding 0; owed = c .owed; opening = openingAfter (s .control .opening) r })
       (s .command) (s .reply) (s .kinds)
 
   abbrev pub answeredNext : State
   answeredNext =
-      stateFrom (answeredControl (s .control) 0 (s .control .owed - n) (leavesUnfinished r)) (s .command) (s .reply) (shifted (s .kinds) n (s .control .owed))
+      stateFrom (answeredControl (s .control) 0 (s .control .owed - n) (openingAfter (s .control .opening) r)) (s .command) (s .reply) (shifted (s .kinds) n (s .control .owed))
 
-  line-effect : serverEffectIn f s lf ≡ serverEffectOf Gives.HeldAndOctet (at Place.Holding 0) n (leavesUnfinished r)
+  line-effect : serverEffectIn f s lf ≡ serverEffectOf Gives.HeldAndOctet (at Place.Holding 0) n (openingAfter (s .control .opening) r)
   unfolding serverEffectIn serverEffect replyEffect wholeLine
   line-effect =
       let c = s .control in
       let o = headOf (s .kinds) (c .owed) in
       let t = content (take (c .server .held) (s .reply)) in
-      ap (λ (p : Place). replyEffect f (c .unfinished) o p (c .server .held) (s .reply) true) place
-      ∙ ((λ i. serverEffectOf (lineGives f (sym read i) (c .unfinished) o t) (at Place.Holding 0) (lineRemoves (sym read i) o) (leavesUnfinished (sym read i)))
-      ∙ (λ i. serverEffectOf (line-gives (s .kinds) (c .unfinished) (c .owed) still f r t keeps i) (at Place.Holding 0)
-      (line-removes (s .kinds) (c .unfinished) (c .owed) still r i) (leavesUnfinished r)))
+      ap (λ (p : Place). replyEffect f (c .opening) o p (c .server .held) (s .reply) true) place
+      ∙ ((λ i. serverEffectOf (lineGives f (sym read i) (c .opening) o t) (at Place.Holding 0) (lineRemoves (sym read i) o) (openingAfter (c .opening) (sym read i)))
+      ∙ (λ i. serverEffectOf (line-gives (s .kinds) (c .opening) (c .owed) still f r t keeps i) (at Place.Holding 0)
+      (line-removes (s .kinds) (c .opening) (c .owed) still r i) (openingAfter (s .control .opening) r)))
 
   pub server-line : octetStep f server s lf ≡ stepTo answeredNext [] (take (s .control .server .held) (s .reply) ++ (lf ∷ []))
   unfolding octetStep serverStep serverState stored givesText
   server-line =
-      let behind = kept-still (s .kinds) (s .control .unfinished) (s .control .owed) still n keeps in
+      let behind = kept-still (s .kinds) (s .control .opening) (s .control .owed) still n keeps in
       let line = take (s .control .server .held) (s .reply) ++ (lf ∷ []) in
       rw line-effect ((λ i. record {
         state = still-state ended n size behind i;
@@ -246,9 +252,9 @@ reply-lent : (lent : List ℕ) → length lent ≡ lentSize → midOf lentReply 
 reply-lent lent all = take-all mostHeld (drop lentReply lent) (omega (arith, all, length-drop lentReply lent)) ∙ sym (drop-drop mostHeld lentCommand lent)
 
 -- no octet, and one run behind the other
-module _ (l : List ℕ) (i h m : ℕ) (u : Bool) (lent out : List ℕ) (w : ℕ) where
+module _ (l : List ℕ) (i h m : ℕ) (u : ℕ) (lent out : List ℕ) (w : ℕ) where
   pub answered-none : i ≤ length l → h ≤ mostHeld → m ≤ mostOwed → w ≤ length out → isStill (kindsLent lent) 0 m ≡ true
-      → AnsweredPlain l i h m u lent out w (record { more = false; taken = i; held = h; owed = m; unfinished = u; at = w }) lent out
+      → AnsweredPlain l i h m u lent out w (record { more = false; taken = i; held = h; owed = m; opening = u; at = w }) lent out
   answered-none inside held owed written still =
       record {
         ran = λ f c sb n room. ran-none f server l (coreLent (answeredControl c h m u) lent sb out (record { server = n; client = w })) i inside room written;
@@ -260,12 +266,12 @@ module _ (l : List ℕ) (i h m : ℕ) (u : Bool) (lent out : List ℕ) (w : ℕ)
       }
 
   pub answered-then : (r r′ : Answered) (lent′ out′ lent″ out″ : List ℕ) → AnsweredPlain l i h m u lent out w r lent′ out′
-      → AnsweredPlain l (r .taken) (r .held) (r .owed) (r .unfinished) lent′ out′ (r .at) r′ lent″ out″
+      → AnsweredPlain l (r .taken) (r .held) (r .owed) (r .opening) lent′ out′ (r .at) r′ lent″ out″
       → AnsweredPlain l i h m u lent out w r′ lent″ out″
   answered-then r r′ lent′ out′ lent″ out″ a b =
       record {
         ran = λ f c sb n room.
-            ran-then f server l _ (coreLent (answeredControl c (r .held) (r .owed) (r .unfinished)) lent′ sb out′ (record { server = n; client = r .at })) _
+            ran-then f server l _ (coreLent (answeredControl c (r .held) (r .owed) (r .opening)) lent′ sb out′ (record { server = n; client = r .at })) _
             i (r .taken) (r′ .taken) (a .ran f c sb n room) (b .ran f c sb n room);
         held = b .held;
         owed = b .owed;
@@ -277,18 +283,18 @@ module _ (l : List ℕ) (i h m : ℕ) (u : Bool) (lent out : List ℕ) (w : ℕ)
   -- whether another may follow is not looked at
   pub answered-more : (b : Bool) (r : Answered) (lent′ out′ : List ℕ) → AnsweredPlain l i h m u lent out w r lent′ out′
       → AnsweredPlain l i h m u lent out w
-      (record { more = b; taken = r .taken; held = r .held; owed = r .owed; unfinished = r .unfinished; at = r .at }) lent′ out′
+      (record { more = b; taken = r .taken; held = r .held; owed = r .owed; opening = r .opening; at = r .at }) lent′ out′
   answered-more b r lent′ out′ a =
       record { ran = a .ran; held = a .held; owed = a .owed; written = a .written; still = a .still; addresses = a .addresses }
 
 -- a run from a control in which the server holds its octets
 pub answered-from : (f : Fixed) (l : List ℕ) (c : Control) (lent sb cb : List ℕ) (w : Written) (i j : ℕ) (then : Control → Core) {after before : Control}
     → c .server .place ≡ Place.Holding → after ≡ before
-    → Ran f server l (coreLent (answeredControl c (c .server .held) (c .owed) (c .unfinished)) lent sb cb w) i (then before) j
+    → Ran f server l (coreLent (answeredControl c (c .server .held) (c .owed) (c .opening)) lent sb cb w) i (then before) j
     → Ran f server l (coreLent c lent sb cb w) i (then after) j
 answered-from f l c lent sb cb w i j then {after} {before} e built ran =
     subst (λ (d : Control). Ran f server l (coreLent c lent sb cb w) i (then d) j) (sym built)
-    (subst (λ (p : Place). Ran f server l (coreLent (withServer c (at p (c .server .held)) (c .owed) (c .unfinished)) lent sb cb w) i (then before) j) (sym e) ran)
+    (subst (λ (p : Place). Ran f server l (coreLent (withServer c (at p (c .server .held)) (c .owed) (c .opening)) lent sb cb w) i (then before) j) (sym e) ran)
 
 -- octets of a line that has not ended: p is the server's line then
 module _ (l : List ℕ) (i j h : ℕ) (lent p : List ℕ) (all : length lent ≡ lentSize) (forward : i ≤ j) (inside : j ≤ length l)
@@ -319,8 +325,8 @@ module _ (l : List ℕ) (i j h : ℕ) (lent p : List ℕ) (all : length lent ≡
       let long : lentReply + held - lentReply ≡ 0 + length ys = omega arith in
       sym (ap (take (lentReply + held - lentReply)) same ∙ (ap (λ (k : ℕ). take k (putAt line 0 ys)) long ∙ take-put-at line 0 ys (omega arith)))
 
-  pub reply-held : (m : ℕ) (u : Bool) (out : List ℕ) (w : ℕ) → m ≤ mostOwed → w ≤ length out → isStill (kindsLent lent) 0 m ≡ true → every (isNot lf) ys ≡ true
-      → AnsweredPlain l i h m u lent out w (record { more = false; taken = j; held = held; owed = m; unfinished = u; at = w }) (putMid lentReply mostHeld lent p) out
+  pub reply-held : (m : ℕ) (u : ℕ) (out : List ℕ) (w : ℕ) → m ≤ mostOwed → w ≤ length out → isStill (kindsLent lent) 0 m ≡ true → every (isNot lf) ys ≡ true
+      → AnsweredPlain l i h m u lent out w (record { more = false; taken = j; held = held; owed = m; opening = u; at = w }) (putMid lentReply mostHeld lent p) out
   reply-held m u out w owed written still none =
       record {
         ran = λ f c sb k other.
@@ -338,11 +344,11 @@ module _ (l : List ℕ) (i j h : ℕ) (lent p : List ℕ) (all : length lent ≡
       }
 
 -- the LF of a plain line; the code reads the line once to judge it, and once to write it
-module _ (l : List ℕ) (j n m : ℕ) (u : Bool) (lent p out out′ : List ℕ) (w next k : ℕ) (v : Bool) (all : length lent ≡ lentSize)
+module _ (l : List ℕ) (j n m : ℕ) (u : ℕ) (lent p out out′ : List ℕ) (w next k : ℕ) (v : ℕ) (all : length lent ≡ lentSize)
     (held : n ≤ mostHeld) (owed : m ≤ mostOwed) (still : isStill (kindsLent lent) 0 m ≡ true) (inside : j < length l) (end : getD l j 0 ≡ lf)
     (seen line : List ℕ) (es : seen ≡ take (lentReply + n - lentReply) (drop lentReply lent)) (el : line ≡ take (lentReply + n - lentReply) (drop lentReply lent))
-    (room : length seen < length out - w) (r : ReplyLine) (read : r ≡ replyLine (content seen)) (ek : k ≡ plainRemoves r m) (ev : v ≡ leavesUnfinished r)
-    (keeps : keepsStill (kindsLent lent) u k m ≡ true)
+    (room : length seen < length out - w) (r : ReplyLine) (read : r ≡ replyLine u (content seen)) (ek : k ≡ plainRemoves r m) (ev : v ≡ openingAfter u r)
+    (keeps : keepsStill (kindsLent lent) (isOpen u) k m ≡ true)
     (en : next ≡ positionAfter out w (line ++ (lf ∷ []))) (eo : out′ ≡ putAt out w (line ++ (lf ∷ []))) (put : p ≡ shifted (kindsLent lent) k m) where
   kinds-hold : m ≤ length (kindsLent lent)
   kinds-hold = omega (arith, kinds-size lent all)
@@ -359,7 +365,7 @@ module _ (l : List ℕ) (j n m : ℕ) (u : Bool) (lent p out out′ : List ℕ) 
   line-long : length line ≡ length seen
   line-long = ap length (el ∙ sym es)
 
-  pub reply-ended : AnsweredPlain l j n m u lent out w (record { more = true; taken = j + 1; held = 0; owed = m - k; unfinished = v; at = next }) (putMid lentKinds mostOwed lent p) out′
+  pub reply-ended : AnsweredPlain l j n m u lent out w (record { more = true; taken = j + 1; held = 0; owed = m - k; opening = v; at = next }) (putMid lentKinds mostOwed lent p) out′
   reply-ended =
       let x = line ++ (lf ∷ []) in
       let fits : w + length x ≤ length out = omega (arith, line-long, length-append line (lf ∷ [])) in
@@ -370,8 +376,8 @@ module _ (l : List ℕ) (j n m : ℕ) (u : Bool) (lent p out out′ : List ℕ) 
             let e : Written = record { server = a; client = next } in
             let lines = linesLent lent in
             let kinds = put ∙ ap (λ (q : ℕ). shifted (kindsLent lent) q m) ek in
-            let run = server-ended f s refl still kinds-hold r (read ∙ ap (λ (z : List ℕ). replyLine (content z)) (as-held es))
-            (subst (λ (q : ℕ). keepsStill (kindsLent lent) u q m ≡ true) ek keeps) l sb out b j inside end line (as-held el) (omega (arith, line-long)) other next out′ en eo in
+            let run = server-ended f s refl still kinds-hold r (read ∙ ap (λ (z : List ℕ). replyLine u (content z)) (as-held es))
+            (subst (λ (q : ℕ). keepsStill (kindsLent lent) (isOpen u) q m ≡ true) ek keeps) l sb out b j inside end line (as-held el) (omega (arith, line-long)) other next out′ en eo in
             subst (λ (z : State). Ran f server l (coreFrom s sb out b) j (coreFrom z sb out′ e) (j + 1))
             (sym (kinds-back lent all p kinds-left (answeredControl c 0 (m - k) v)
             ∙ (λ i. stateFrom (answeredControl c 0 (m - ek i) (ev i)) (commandIn lines) (replyIn lines) (kinds i)))) run;

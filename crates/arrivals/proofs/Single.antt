@@ -8,6 +8,7 @@ use lib.ListN.{take, set}
 use borrow.Author.Tests.{lt-ltb}
 use Rattle.rules.specs.Octets.{lf}
 use Rattle.rules.specs.Lines.{judged}
+use Rattle.rules.specs.Replies.{isOpen}
 use Rattle.rules.specs.Answers.{Side, client, server}
 use Rattle.octets.proofs.Choices.{choose-true}
 use Rattle.places.specs.declared.Place.{Place}
@@ -77,12 +78,12 @@ pub server-kept : (s : State) → Settled s → s .control .server .place ≡ Pl
 unfolding blocked
 server-kept s settled p n line =
     record {
-      answers = λ e. settled .answers (ap (λ (q : Place). s .control .unfinished || isFlowingOrEnded q) p ∙ e);
+      answers = λ e. settled .answers (ap (λ (q : Place). isOpen (s .control .opening) || isFlowingOrEnded q) p ∙ e);
       auth = λ e. still-through (s .control .server .place) (s .control .server .held) (ap isHolding p) (settled .auth e) n;
     }
 
 module _ (f : Fixed) (s : State) (x : ℕ) where
-  server-step : (g : Gives) (d : Direction) → serverEffectIn f s x ≡ serverEffectOf g d 0 (s .control .unfinished)
+  server-step : (g : Gives) (d : Direction) → serverEffectIn f s x ≡ serverEffectOf g d 0 (s .control .opening)
       → Settled (withReply s d (stored (s .reply) (s .control .server .held) x g))
       → octetStep f server s x
       ≡ stepTo (withReply s d (stored (s .reply) (s .control .server .held) x g)) []
@@ -97,7 +98,7 @@ module _ (f : Fixed) (s : State) (x : ℕ) where
       })
 
   server-gives : Settled s → (p : Place) → s .control .server ≡ at p 0
-      → serverEffectIn f s x ≡ serverEffectOf Gives.Octet (at p 0) 0 (s .control .unfinished)
+      → serverEffectIn f s x ≡ serverEffectOf Gives.Octet (at p 0) 0 (s .control .opening)
       → octetStep f server s x ≡ stepTo s [] (x ∷ [])
   unfolding givesText stored
   server-gives settled p place e =
@@ -119,7 +120,7 @@ module _ (f : Fixed) (s : State) (x : ℕ) where
       (ap (λ (e : Direction). clientEffect f (s .control .switches) e (s .command) x) p)
   octet-passes server settled p =
       server-gives f s x settled Place.Passing p
-      (ap (λ (e : Direction). serverEffect f (s .control .unfinished) (headOf (s .kinds) (s .control .owed)) e (s .reply) x) p)
+      (ap (λ (e : Direction). serverEffect f (s .control .opening) (headOf (s .kinds) (s .control .owed)) e (s .reply) x) p)
 
   pub octet-flows : (d : Side) → Settled s → directionOf d (s .control) ≡ at Place.Flowing 0 → eqb x lf ≡ false
       → octetStep f d s x ≡ stepTo s (toServerOf d (x ∷ [])) (toClientOf d (x ∷ []))
@@ -129,7 +130,7 @@ module _ (f : Fixed) (s : State) (x : ℕ) where
       (λ i. placeEffect f (s .control .switches) (p i .place) (p i .held) (take (p i .held) (s .command)) (n i))
   octet-flows server settled p n =
       server-gives f s x settled Place.Flowing p
-      (λ i. replyEffect f (s .control .unfinished) (headOf (s .kinds) (s .control .owed)) (p i .place) (p i .held) (s .reply) (n i))
+      (λ i. replyEffect f (s .control .opening) (headOf (s .kinds) (s .control .owed)) (p i .place) (p i .held) (s .reply) (n i))
 
   pub octet-held : (d : Side) (k : ℕ) (line : List ℕ) → Settled (holding d s k line) → eqb x lf ≡ false → k + 1 < judged
       → octetStep f d (holding d s k line) x ≡ stepTo (holding d s (k + 1) (set line k x)) [] []
@@ -140,6 +141,6 @@ module _ (f : Fixed) (s : State) (x : ℕ) where
       (holding-kept client s k (k + 1) line (set line k x) settled)
   octet-held server k line settled n h =
       server-step f (holding server s k line) x Gives.Held (at Place.Holding (k + 1))
-      (ap (replyEffect f (s .control .unfinished) (headOf (s .kinds) (s .control .owed)) Place.Holding k line) n
+      (ap (replyEffect f (s .control .opening) (headOf (s .kinds) (s .control .owed)) Place.Holding k line) n
       ∙ choose-true _ _ (lt-ltb (k + 1) judged h))
       (holding-kept server s k (k + 1) line (set line k x) settled)

@@ -26,21 +26,23 @@ isPlainFirst kinds = eqb (getD kinds 0 0) 0
 
 -- how many kinds a reply's line removes, where the first one owed is no own answer
 unfoldable pub plainRemoves : ReplyLine → ℕ → ℕ
-plainRemoves ReplyLine.GoesOn owed = 0
+plainRemoves (ReplyLine.Opens code) owed = 0
+plainRemoves ReplyLine.Belongs owed = 0
+plainRemoves ReplyLine.StandsAlone owed = 0
 plainRemoves ReplyLine.Preliminary owed = 0
 plainRemoves ReplyLine.Final owed = choose (eqb owed 0) 0 1
 
 -- in a still queue: no kind is removed; or a plain one is, or the reply began before, and behind it the queue is still
 unfoldable pub keepsStill : List ℕ → Bool → ℕ → ℕ → Bool
-keepsStill kinds unfinished n owed = choose (eqb n 0) true ((unfinished || isPlainFirst kinds) && isStill kinds n owed)
+keepsStill kinds inside n owed = choose (eqb n 0) true ((inside || isPlainFirst kinds) && isStill kinds n owed)
 
 -- a control in which the client holds so many octets, and so many replies are owed
 abbrev pub saidControl : Control → ℕ → ℕ → Control
 saidControl c held owed = withClient c (c .switches) (at Place.Holding held) owed
 
--- a control in which the server holds so many octets, so many replies are owed, and one is unfinished or not
-abbrev pub answeredControl : Control → ℕ → ℕ → Bool → Control
-answeredControl c held owed unfinished = withServer c (at Place.Holding held) owed unfinished
+-- a control in which the server holds so many octets, so many replies are owed, and one is open with this code or none
+abbrev pub answeredControl : Control → ℕ → ℕ → ℕ → Control
+answeredControl c held owed opening = withServer c (at Place.Holding held) owed opening
 
 -- plain lines of a client that holds h octets, with m replies owed and w octets written, lead from i to where r says,
 -- whatever the rest of the control and the client's buffer are; and the queue is still then
@@ -55,11 +57,11 @@ pub record SaidPlain (l : List ℕ) (i h m : ℕ) (lent out : List ℕ) (w : ℕ
   pub addresses : addressesLent lent′ ≡ addressesLent lent
 
 -- plain lines of the server, whatever the rest of the control and the server's buffer are
-pub record AnsweredPlain (l : List ℕ) (i h m : ℕ) (u : Bool) (lent out : List ℕ) (w : ℕ) (r : Answered)
+pub record AnsweredPlain (l : List ℕ) (i h m opening : ℕ) (lent out : List ℕ) (w : ℕ) (r : Answered)
     (lent′ out′ : List ℕ) : Type 0 where
   pub ran : (f : Fixed) (c : Control) (toServer : List ℕ) (n : ℕ) → n ≤ length toServer
-      → Ran f server l (coreLent (answeredControl c h m u) lent toServer out (record { server = n; client = w })) i
-      (coreLent (answeredControl c (r .held) (r .owed) (r .unfinished)) lent′ toServer out′ (record { server = n; client = r .at })) (r .taken)
+      → Ran f server l (coreLent (answeredControl c h m opening) lent toServer out (record { server = n; client = w })) i
+      (coreLent (answeredControl c (r .held) (r .owed) (r .opening)) lent′ toServer out′ (record { server = n; client = r .at })) (r .taken)
   pub held : r .held ≤ mostHeld
   pub owed : r .owed ≤ mostOwed
   pub written : r .at ≤ length out′

@@ -45,7 +45,7 @@ withCommand s d line = stateFrom (withClient (s .control) (s .control .switches)
 
 -- the same of the server's
 abbrev pub withReply : State → Direction → List ℕ → State
-withReply s d line = stateFrom (withServer (s .control) d (s .control .owed) (s .control .unfinished)) (s .command) line (s .kinds)
+withReply s d line = stateFrom (withServer (s .control) d (s .control .owed) (s .control .opening)) (s .command) line (s .kinds)
 
 -- a state with another direction and array of a side's
 abbrev pub withLine : Side → State → Direction → List ℕ → State

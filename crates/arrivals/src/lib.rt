@@ -196,7 +196,7 @@ fn rebuilt(control: Control) -> Control
             held: server.held,
         },
         owed: control.owed,
-        unfinished: control.unfinished,
+        opening: control.opening,
     }
 }
 

@@ -7,7 +7,6 @@ ghost use mathlib.Core.List.{List};
 ghost use Prim.Native.Nat.{ℕ, _+_, _-_, _≤_, _<_};
 ghost use lib.ListN.{length, getD};
 ghost use Rattle.rules.specs.Octets.{lf};
-ghost use Rattle.rules.specs.Replies.{leavesUnfinished};
 ghost use Rattle.rules.specs.Answers.{client, server, mostOwed};
 ghost use Rattle.rules.specs.Lines.{mostHeld};
 ghost use Rattle.records.specs.Layout.{lentSize};
@@ -49,13 +48,13 @@ pub struct Said {
     pub at: usize,
 }
 
-// The same of the server, and whether its reply is unfinished.
+// The same of the server, and the code that opened the reply in which it stands, or 0.
 pub struct Answered {
     pub more: bool,
     pub taken: usize,
     pub held: usize,
     pub owed: usize,
-    pub unfinished: bool,
+    pub opening: u32,
     pub at: usize,
 }
 
@@ -173,30 +172,22 @@ fn removed(reply: ReplyLine, owed: usize) -> usize
     ensures { λ r. ⌜ r ≡ plainRemoves reply owed ⌝ }
 {
     match reply {
-        ReplyLine::GoesOn => 0,
+        ReplyLine::Opens(_) => 0,
+        ReplyLine::Belongs => 0,
         ReplyLine::Preliminary => 0,
         ReplyLine::Final => if owed == 0 { 0 } else { 1 },
-    }
-}
-
-fn goes_on(reply: ReplyLine) -> bool
-    ensures { λ r. ⌜ r ≡ leavesUnfinished reply ⌝ }
-{
-    match reply {
-        ReplyLine::GoesOn => true,
-        ReplyLine::Preliminary => false,
-        ReplyLine::Final => false,
+        ReplyLine::StandsAlone => 0,
     }
 }
 
 // In a still queue: no kind is removed; or a plain one is, or the reply began before, and behind it the queue is still.
-fn keeps_still(kinds: &[u8], unfinished: bool, removes: usize, owed: usize) -> bool
-    ensures { λ r. ⌜ r ≡ keepsStill (now (kinds .entry)) unfinished removes owed ⌝ }
+fn keeps_still(kinds: &[u8], inside: bool, removes: usize, owed: usize) -> bool
+    ensures { λ r. ⌜ r ≡ keepsStill (now (kinds .entry)) inside removes owed ⌝ }
 {
     if removes == 0 {
         return true;
     }
-    if !unfinished {
+    if !inside {
         if !is_plain_first(kinds) {
             return false;
         }
@@ -217,7 +208,7 @@ fn is_plain_first(kinds: &[u8]) -> bool
 fn server_line(
     held: usize,
     owed: usize,
-    unfinished: bool,
+    opening: u32,
     octets: &[u8],
     i: usize,
     lent: &mut [u8],
@@ -227,7 +218,7 @@ fn server_line(
     requires counts { ⌜ (held ≤ mostHeld) × (owed ≤ mostOwed) × (isStill (kindsLent (now lent)) 0 owed ≡ true) ⌝ }
     requires within { ⌜ (i ≤ length (now octets)) × (length (now lent) ≡ lentSize) × (at ≤ length (now «to_client»)) ⌝ }
     ensures ran { λ r.
-        ⌜ AnsweredPlain (now (octets .entry)) i held owed unfinished (now (lent .entry)) (now («to_client» .entry)) at r
+        ⌜ AnsweredPlain (now (octets .entry)) i held owed opening (now (lent .entry)) (now («to_client» .entry)) at r
         (now (lent .exit)) (now («to_client» .exit)) ⌝ }
     ensures more { λ r. ⌜ (r .more ≡ true → i < r .taken) ⌝ }
 {
@@ -235,9 +226,9 @@ fn server_line(
     let n = held + (j - i);
     let read = text(held, &octets[i..j], &lent[LENT_REPLY..LENT_REPLY + n]);
     if may_end(octets, j, passed_length(read), to_client.len() - at) {
-        let reply = replies::reply_line(lines::content(read));
+        let reply = replies::reply_line(opening, lines::content(read));
         let removes = removed(reply, owed);
-        if keeps_still(&lent[LENT_KINDS..LENT_COMMAND], unfinished, removes, owed) {
+        if keeps_still(&lent[LENT_KINDS..LENT_COMMAND], opening != 0, removes, owed) {
             // Asked for again: the kinds were lent in between.
             let line = text(held, &octets[i..j], &lent[LENT_REPLY..LENT_REPLY + n]);
             let next = put_line(to_client, at, line, LF);
@@ -247,7 +238,7 @@ fn server_line(
                 taken: j + 1,
                 held: 0,
                 owed: owed - removes,
-                unfinished: goes_on(reply),
+                opening: replies::opening_after(opening, reply),
                 at: next,
             };
         }
@@ -257,16 +248,16 @@ fn server_line(
         taken: j,
         held: n,
         owed,
-        unfinished,
+        opening,
         at,
     }
 }
 
-// Plain lines of a server that holds its octets, with `start` octets held.
+// Plain lines of a server that holds its octets, with `start` octets held and the reply of this code open, or none.
 fn server_lines(
     start: usize,
     before: usize,
-    reply: bool,
+    code: u32,
     octets: &[u8],
     from: usize,
     lent: &mut [u8],
@@ -277,22 +268,22 @@ fn server_lines(
     requires within { ⌜ (from ≤ length (now octets)) × (length (now lent) ≡ lentSize)
         × (first ≤ length (now «to_client»)) ⌝ }
     ensures { λ r.
-        ⌜ AnsweredPlain (now (octets .entry)) from start before reply (now (lent .entry)) (now («to_client» .entry))
+        ⌜ AnsweredPlain (now (octets .entry)) from start before code (now (lent .entry)) (now («to_client» .entry))
         first r (now (lent .exit)) (now («to_client» .exit)) ⌝ }
 {
     let mut held = start;
     let mut owed = before;
-    let mut unfinished = reply;
+    let mut opening = code;
     let mut at = first;
     let mut i = from;
     while i < octets.len() {
-        let answered = server_line(held, owed, unfinished, octets, i, lent, to_client, at);
+        let answered = server_line(held, owed, opening, octets, i, lent, to_client, at);
         if !answered.more {
             return answered;
         }
         held = answered.held;
         owed = answered.owed;
-        unfinished = answered.unfinished;
+        opening = answered.opening;
         at = answered.at;
         i = answered.taken;
     }
@@ -301,7 +292,7 @@ fn server_lines(
         taken: i,
         held,
         owed,
-        unfinished,
+        opening,
         at,
     }
 }
@@ -390,7 +381,7 @@ fn plain_replies(
     let answered = server_lines(
         direction.held,
         control.owed,
-        control.unfinished,
+        control.opening,
         octets,
         i,
         lent,
@@ -403,7 +394,7 @@ fn plain_replies(
     };
     RunPart {
         taken: answered.taken,
-        control: with_server(control, then, answered.owed, answered.unfinished),
+        control: with_server(control, then, answered.owed, answered.opening),
         written: Written {
             server: written.server,
             client: answered.at,

@@ -221,7 +221,7 @@ pub fn any_run(
     );
     RunPart {
         taken: run.taken,
-        control: with_server(control, run.direction, control.owed, control.unfinished),
+        control: with_server(control, run.direction, control.owed, control.opening),
         written: Written {
             server: written.server,
             client: run.at,

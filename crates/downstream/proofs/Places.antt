@@ -13,14 +13,14 @@ use Rattle.queue.specs.declared.Owes.{Owes}
 use Rattle.places.specs.Places.{at}
 use Rattle.downstream.specs.Downstream.{serverEffectOf, flowingLine, replyEffect, serverEffect}
 
-module _ (f : Fixed) (u : Bool) (o : Owes) where
+module _ (f : Fixed) (u : ℕ) (o : Owes) where
   pub server-place : (d : Direction) (line : List ℕ) (x : ℕ) {p : Place} → d .place ≡ p
       → replyEffect f u o p (d .held) line (eqb x lf) ≡ serverEffect f u o d line x
   unfolding serverEffect
   server-place d line x e = ap (λ (p : Place). replyEffect f u o p (d .held) line (eqb x lf)) (sym e)
 
   pub server-flowing : (held : ℕ) (line : List ℕ) (b : Bool)
-      → choose b (flowingLine o line) (serverEffectOf Gives.Octet (at Place.Flowing 0) 0 u) ≡ replyEffect f u o Place.Flowing held line b
+      → choose b (flowingLine u o line) (serverEffectOf Gives.Octet (at Place.Flowing 0) 0 u) ≡ replyEffect f u o Place.Flowing held line b
   unfolding replyEffect choose
   server-flowing held line true = refl
   server-flowing held line false = refl

@@ -6,7 +6,7 @@ use lib.Dec.{eqb, ltb}
 use lib.ListN.{take}
 use Rattle.rules.specs.Octets.{lf, choose}
 use Rattle.rules.specs.Lines.{judged, content}
-use Rattle.rules.specs.Replies.{replyLine, leavesUnfinished, passiveReply}
+use Rattle.rules.specs.Replies.{isOpen, replyLine, openingAfter, passiveReply}
 use Rattle.rules.specs.declared.Fixed.{Fixed}
 use Rattle.rules.specs.declared.Kind.{Kind}
 use Rattle.rules.specs.declared.ReplyLine.{ReplyLine}
@@ -19,8 +19,8 @@ use Rattle.downstream.specs.declared.ServerEffect.{ServerEffect}
 use Rattle.places.specs.Places.{at}
 
 -- the effect of a server octet, by its parts
-abbrev pub serverEffectOf : Gives → Direction → ℕ → Bool → ServerEffect
-serverEffectOf g d n u = record { gives = g; direction = d; removes = n; unfinished = u }
+abbrev pub serverEffectOf : Gives → Direction → ℕ → ℕ → ServerEffect
+serverEffectOf g d n opening = record { gives = g; direction = d; removes = n; opening = opening }
 
 -- "removes the first owed kind, unless none is owed or it is the gateway's own answer"
 unfoldable pub kindRemoved : Kind → ℕ
@@ -36,9 +36,11 @@ headRemoved (Owes.One k) = kindRemoved k
 
 -- only a line that ends a final reply removes one
 unfoldable pub lineRemoves : ReplyLine → Owes → ℕ
-lineRemoves ReplyLine.GoesOn o = 0
+lineRemoves (ReplyLine.Opens code) o = 0
+lineRemoves ReplyLine.Belongs o = 0
 lineRemoves ReplyLine.Preliminary o = 0
 lineRemoves ReplyLine.Final o = headRemoved o
+lineRemoves ReplyLine.StandsAlone o = 0
 
 -- "the line becomes `229 Entering Extended Passive Mode (|||port|)`. Otherwise it passes"
 unfoldable pub passiveEffect : PassiveReply → Gives
@@ -59,41 +61,43 @@ headEffect f Owes.Nothing c = Gives.HeldAndOctet
 headEffect f (Owes.One k) c = kindEffect f k c
 
 -- a line judged whole of content c gives itself, unless it ends a final reply of no earlier line
-unfoldable pub lineGives : Fixed → ReplyLine → Bool → Owes → List ℕ → Gives
-lineGives f ReplyLine.GoesOn u o c = Gives.HeldAndOctet
-lineGives f ReplyLine.Preliminary u o c = Gives.HeldAndOctet
-lineGives f ReplyLine.Final u o c = choose u Gives.HeldAndOctet (headEffect f o c)
+unfoldable pub lineGives : Fixed → ReplyLine → ℕ → Owes → List ℕ → Gives
+lineGives f (ReplyLine.Opens code) opening o c = Gives.HeldAndOctet
+lineGives f ReplyLine.Belongs opening o c = Gives.HeldAndOctet
+lineGives f ReplyLine.Preliminary opening o c = Gives.HeldAndOctet
+lineGives f ReplyLine.Final opening o c = choose (isOpen opening) Gives.HeldAndOctet (headEffect f o c)
+lineGives f ReplyLine.StandsAlone opening o c = Gives.HeldAndOctet
 
 -- the LF of a line judged whole
-unfoldable pub wholeLine : Fixed → Bool → Owes → List ℕ → ServerEffect
-wholeLine f u o c =
-    let r = replyLine c in
-    serverEffectOf (lineGives f r u o c) (at Place.Holding 0) (lineRemoves r o) (leavesUnfinished r)
+unfoldable pub wholeLine : Fixed → ℕ → Owes → List ℕ → ServerEffect
+wholeLine f opening o c =
+    let r = replyLine opening c in
+    serverEffectOf (lineGives f r opening o c) (at Place.Holding 0) (lineRemoves r o) (openingAfter opening r)
 
 -- the LF of a flowing line, whose first four octets are still in the array
-unfoldable pub flowingLine : Owes → List ℕ → ServerEffect
-flowingLine o line =
-    let r = replyLine (take 4 line) in
-    serverEffectOf Gives.Octet (at Place.Holding 0) (lineRemoves r o) (leavesUnfinished r)
+unfoldable pub flowingLine : ℕ → Owes → List ℕ → ServerEffect
+flowingLine opening o line =
+    let r = replyLine opening (take 4 line) in
+    serverEffectOf Gives.Octet (at Place.Holding 0) (lineRemoves r o) (openingAfter opening r)
 
 -- another octet of a held line: it is held, or lets the line go
-unfoldable pub replyOctet : Bool → ℕ → ServerEffect
-replyOctet u held =
-    choose (ltb (held + 1) judged) (serverEffectOf Gives.Held (at Place.Holding (held + 1)) 0 u)
-    (serverEffectOf Gives.HeldAndOctet (at Place.Flowing 0) 0 u)
+unfoldable pub replyOctet : ℕ → ℕ → ServerEffect
+replyOctet opening held =
+    choose (ltb (held + 1) judged) (serverEffectOf Gives.Held (at Place.Holding (held + 1)) 0 opening)
+    (serverEffectOf Gives.HeldAndOctet (at Place.Flowing 0) 0 opening)
 
 -- by the place of the direction, and whether the octet is LF
-unfoldable pub replyEffect : Fixed → Bool → Owes → Place → ℕ → List ℕ → Bool → ServerEffect
-replyEffect f u o Place.Holding held line true = wholeLine f u o (content (take held line))
-replyEffect f u o Place.Holding held line false = replyOctet u held
-replyEffect f u o Place.Flowing held line true = flowingLine o line
-replyEffect f u o Place.Flowing held line false = serverEffectOf Gives.Octet (at Place.Flowing 0) 0 u
-replyEffect f u o Place.Passing held line b = serverEffectOf Gives.Octet (at Place.Passing 0) 0 u
-replyEffect f u o Place.Ended held line b = serverEffectOf Gives.Nothing (at Place.Ended 0) 0 u
+unfoldable pub replyEffect : Fixed → ℕ → Owes → Place → ℕ → List ℕ → Bool → ServerEffect
+replyEffect f opening o Place.Holding held line true = wholeLine f opening o (content (take held line))
+replyEffect f opening o Place.Holding held line false = replyOctet opening held
+replyEffect f opening o Place.Flowing held line true = flowingLine opening o line
+replyEffect f opening o Place.Flowing held line false = serverEffectOf Gives.Octet (at Place.Flowing 0) 0 opening
+replyEffect f opening o Place.Passing held line b = serverEffectOf Gives.Octet (at Place.Passing 0) 0 opening
+replyEffect f opening o Place.Ended held line b = serverEffectOf Gives.Nothing (at Place.Ended 0) 0 opening
 
 -- line is the array that holds the server's octets, o the first kind owed
-unfoldable pub serverEffect : Fixed → Bool → Owes → Direction → List ℕ → ℕ → ServerEffect
-serverEffect f u o d line x = replyEffect f u o (d .place) (d .held) line (eqb x lf)
+unfoldable pub serverEffect : Fixed → ℕ → Owes → Direction → List ℕ → ℕ → ServerEffect
+serverEffect f opening o d line x = replyEffect f opening o (d .place) (d .held) line (eqb x lf)
 
 -- this page's definitions, for a proof that computes with them
 unfoldable pub downstream-opened : Unit {0}

@@ -3,7 +3,7 @@
 ghost use mathlib.Core.Path.{_≡_};
 ghost use lib.Dec.{eqb};
 ghost use Rattle.rules.specs.Octets.{lf, choose};
-ghost use Rattle.rules.specs.Replies.{passiveReply, leavesUnfinished};
+ghost use Rattle.rules.specs.Replies.{isOpen, passiveReply};
 ghost use Rattle.places.specs.Places.{at as directionAt};
 ghost use Rattle.downstream.specs.Downstream.{kindRemoved, headRemoved, lineRemoves, passiveEffect, kindEffect};
 ghost use Rattle.downstream.specs.Downstream.{headEffect, lineGives, wholeLine, flowingLine, replyOctet};
@@ -20,12 +20,13 @@ use rules::Kind;
 use rules::PassiveReply;
 use rules::ReplyLine;
 
-// What a server octet does on the server's side; also how many owed kinds it removes.
+// What a server octet does on the server's side; also how many owed kinds it removes, and the code of the reply that
+// is open then.
 pub struct ServerEffect {
     pub gives: Gives,
     pub direction: Direction,
     pub removes: usize,
-    pub unfinished: bool,
+    pub opening: u32,
 }
 
 // How many owed kinds a final reply removes, by the first one owed.
@@ -53,9 +54,11 @@ fn line_removes(reply: ReplyLine, first: Owes) -> usize
     ensures { λ r. ⌜ r ≡ lineRemoves reply first ⌝ }
 {
     match reply {
-        ReplyLine::GoesOn => 0,
+        ReplyLine::Opens(_) => 0,
+        ReplyLine::Belongs => 0,
         ReplyLine::Preliminary => 0,
         ReplyLine::Final => head_removed(first),
+        ReplyLine::StandsAlone => 0,
     }
 }
 
@@ -90,60 +93,51 @@ fn head_gives(fixed: Fixed, first: Owes, content: &[u8]) -> Gives
     }
 }
 
-// What a line judged whole gives: itself, unless it is the only line of a final reply.
-fn line_gives(
-    fixed: Fixed,
-    reply: ReplyLine,
-    unfinished: bool,
-    first: Owes,
-    content: &[u8],
-) -> Gives
-    ensures { λ r. ⌜ r ≡ lineGives fixed reply unfinished first (now (content .entry)) ⌝ }
+// What a line gives that ends a final reply: itself, unless it is the only one of its reply.
+fn final_gives(fixed: Fixed, opening: u32, first: Owes, content: &[u8]) -> Gives
+    ensures { λ r.
+        ⌜ r ≡ choose (isOpen opening) Gives.HeldAndOctet (headEffect fixed first (now (content .entry))) ⌝ }
 {
-    match reply {
-        ReplyLine::GoesOn => Gives::HeldAndOctet,
-        ReplyLine::Preliminary => Gives::HeldAndOctet,
-        ReplyLine::Final => {
-            if unfinished {
-                Gives::HeldAndOctet
-            } else {
-                head_gives(fixed, first, content)
-            }
-        }
+    if opening != 0 {
+        return Gives::HeldAndOctet;
     }
+    head_gives(fixed, first, content)
 }
 
-fn leaves_unfinished(reply: ReplyLine) -> bool
-    ensures { λ r. ⌜ r ≡ leavesUnfinished reply ⌝ }
+// What a line judged whole gives: itself, unless it ends a final reply.
+fn line_gives(fixed: Fixed, reply: ReplyLine, opening: u32, first: Owes, content: &[u8]) -> Gives
+    ensures { λ r. ⌜ r ≡ lineGives fixed reply opening first (now (content .entry)) ⌝ }
 {
     match reply {
-        ReplyLine::GoesOn => true,
-        ReplyLine::Preliminary => false,
-        ReplyLine::Final => false,
+        ReplyLine::Opens(_) => Gives::HeldAndOctet,
+        ReplyLine::Belongs => Gives::HeldAndOctet,
+        ReplyLine::Preliminary => Gives::HeldAndOctet,
+        ReplyLine::Final => final_gives(fixed, opening, first, content),
+        ReplyLine::StandsAlone => Gives::HeldAndOctet,
     }
 }
 
 // The LF of a server line that is judged whole.
-fn whole_line(fixed: Fixed, unfinished: bool, first: Owes, content: &[u8]) -> ServerEffect
-    ensures { λ r. ⌜ r ≡ wholeLine fixed unfinished first (now (content .entry)) ⌝ }
+fn whole_line(fixed: Fixed, opening: u32, first: Owes, content: &[u8]) -> ServerEffect
+    ensures { λ r. ⌜ r ≡ wholeLine fixed opening first (now (content .entry)) ⌝ }
 {
-    let reply = replies::reply_line(content);
+    let reply = replies::reply_line(opening, content);
     ServerEffect {
-        gives: line_gives(fixed, reply, unfinished, first, content),
+        gives: line_gives(fixed, reply, opening, first, content),
         direction: Direction {
             place: Place::Holding,
             held: 0,
         },
         removes: line_removes(reply, first),
-        unfinished: leaves_unfinished(reply),
+        opening: replies::opening_after(opening, reply),
     }
 }
 
 // The LF of a server line that flows, whose first four octets are still in the array.
-fn flowing_line(first: Owes, line: &[u8]) -> ServerEffect
-    ensures { λ r. ⌜ r ≡ flowingLine first (now (line .entry)) ⌝ }
+fn flowing_line(opening: u32, first: Owes, line: &[u8]) -> ServerEffect
+    ensures { λ r. ⌜ r ≡ flowingLine opening first (now (line .entry)) ⌝ }
 {
-    let reply = replies::reply_line(first_octets(line, 4));
+    let reply = replies::reply_line(opening, first_octets(line, 4));
     ServerEffect {
         gives: Gives::Octet,
         direction: Direction {
@@ -151,82 +145,82 @@ fn flowing_line(first: Owes, line: &[u8]) -> ServerEffect
             held: 0,
         },
         removes: line_removes(reply, first),
-        unfinished: leaves_unfinished(reply),
+        opening: replies::opening_after(opening, reply),
     }
 }
 
 // A server effect that removes nothing and leaves the reply as it was.
-fn unremoved(gives: Gives, place: Place, held: usize, unfinished: bool) -> ServerEffect
-    ensures { λ r. ⌜ r ≡ serverEffectOf gives (directionAt place held) 0 unfinished ⌝ }
+fn unremoved(gives: Gives, place: Place, held: usize, opening: u32) -> ServerEffect
+    ensures { λ r. ⌜ r ≡ serverEffectOf gives (directionAt place held) 0 opening ⌝ }
 {
     ServerEffect {
         gives,
         direction: Direction { place, held },
         removes: 0,
-        unfinished,
+        opening,
     }
 }
 
 // Another octet of a held server line.
-fn reply_octet(unfinished: bool, held: usize) -> ServerEffect
-    ensures { λ r. ⌜ r ≡ replyOctet unfinished held ⌝ }
+fn reply_octet(opening: u32, held: usize) -> ServerEffect
+    ensures { λ r. ⌜ r ≡ replyOctet opening held ⌝ }
 {
     if is_held(held) {
-        return unremoved(Gives::Held, Place::Holding, held + 1, unfinished);
+        return unremoved(Gives::Held, Place::Holding, held + 1, opening);
     }
-    unremoved(Gives::HeldAndOctet, Place::Flowing, 0, unfinished)
+    unremoved(Gives::HeldAndOctet, Place::Flowing, 0, opening)
 }
 
 // An octet of a server line whose octets are held in `line`.
 fn hold_reply(
     fixed: Fixed,
-    unfinished: bool,
+    opening: u32,
     first: Owes,
     held: usize,
     line: &[u8],
     x: u8,
 ) -> ServerEffect
-    ensures { λ r. ⌜ r ≡ replyEffect fixed unfinished first Place.Holding held (now (line .entry)) (eqb x lf) ⌝ }
+    ensures { λ r. ⌜ r ≡ replyEffect fixed opening first Place.Holding held (now (line .entry)) (eqb x lf) ⌝ }
 {
     if x == LF {
         return whole_line(
             fixed,
-            unfinished,
+            opening,
             first,
             lines::content(first_octets(line, held)),
         );
     }
-    reply_octet(unfinished, held)
+    reply_octet(opening, held)
 }
 
 // An octet of a server line that flows.
-fn flow_reply(unfinished: bool, first: Owes, line: &[u8], x: u8) -> ServerEffect
+fn flow_reply(opening: u32, first: Owes, line: &[u8], x: u8) -> ServerEffect
     ensures { λ r.
-        ⌜ r ≡ choose (eqb x lf) (flowingLine first (now (line .entry)))
-        (serverEffectOf Gives.Octet (directionAt Place.Flowing 0) 0 unfinished) ⌝ }
+        ⌜ r ≡ choose (eqb x lf) (flowingLine opening first (now (line .entry)))
+        (serverEffectOf Gives.Octet (directionAt Place.Flowing 0) 0 opening) ⌝ }
 {
     if x == LF {
-        return flowing_line(first, line);
+        return flowing_line(opening, first, line);
     }
-    unremoved(Gives::Octet, Place::Flowing, 0, unfinished)
+    unremoved(Gives::Octet, Place::Flowing, 0, opening)
 }
 
 // What a server octet x does, with the first kind owed; `line` is the array that holds the server's octets.
 pub fn server_effect(
     fixed: Fixed,
-    unfinished: bool,
+    opening: u32,
     first: Owes,
     direction: Direction,
     line: &[u8],
     x: u8,
 ) -> ServerEffect
-    ensures { λ r. ⌜ r ≡ serverEffect fixed unfinished first direction (now (line .entry)) x ⌝ }
+    ensures { λ r. ⌜ r ≡ serverEffect fixed opening first direction (now (line .entry)) x ⌝ }
 {
     let place = direction.place;
     match place {
-        Place::Holding => hold_reply(fixed, unfinished, first, direction.held, line, x),
-        Place::Flowing => flow_reply(unfinished, first, line, x),
-        Place::Passing => unremoved(Gives::Octet, Place::Passing, 0, unfinished),
-        Place::Ended => unremoved(Gives::Nothing, Place::Ended, 0, unfinished),
+        Place::Holding => hold_reply(fixed, opening, first, direction.held, line, x),
+        Place::Flowing => flow_reply(opening, first, line, x),
+        Place::Passing => unremoved(Gives::Octet, Place::Passing, 0, opening),
+        Place::Ended => unremoved(Gives::Nothing, Place::Ended, 0, opening),
     }
 }

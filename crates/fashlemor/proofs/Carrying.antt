@@ -52,7 +52,7 @@ put-holds image s room shape e up down w =
     let fits : length (imageOf s) ≤ length image = omega arith in
     record {
       room = omega (arith, length-put image 0 (imageOf s) (omega arith));
-      read = rw (front-put image (imageOf s) fits) (read-back s (drop (length (imageOf s)) image) size up down (sound-words s .1 w));
+      read = rw (front-put image (imageOf s) fits) (read-back s (drop (length (imageOf s)) image) size (shape .opening) up down (sound-words s .1 w));
       shaped = shape;
       client = e;
       up = up;

@@ -81,7 +81,7 @@ fn try_places(session: Session, place: Place, held: usize) {
             client: forged,
             server,
             owed: c.owed,
-            unfinished: c.unfinished,
+            opening: c.opening,
         },
     ));
     try_all(with_control(
@@ -91,7 +91,7 @@ fn try_places(session: Session, place: Place, held: usize) {
             client,
             server: forged,
             owed: c.owed,
-            unfinished: c.unfinished,
+            opening: c.opening,
         },
     ));
 }

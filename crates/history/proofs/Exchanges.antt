@@ -14,8 +14,8 @@ use Rattle.rules.specs.History.{Item, textOf, hasEnded}
 use Rattle.rules.specs.ToServer.{toServer as readServer}
 use Rattle.rules.specs.ToClient.{toClient as readClient}
 use Rattle.rules.specs.Demand3.{Made, FromFresh, historyOf}
-use Rattle.rules.specs.Exchanges.{Exchange, exchanges, allOn, readAs, printed, exchanges-opened}
-use Rattle.rules.proofs.Exchanges.{twelve-exchanges}
+use Rattle.rules.specs.Exchanges.{Exchange, exchanges, multiLineExchanges, allOn, readAs, printed, exchanges-opened}
+use Rattle.rules.proofs.Exchanges.{twelve-exchanges, multi-line-exchanges}
 use Rattle.queue.specs.Kinds.{kinds-opened}
 use Rattle.gives.specs.Text.{gives-opened}
 use Rattle.places.specs.Places.{places-opened}
@@ -43,6 +43,9 @@ each-holds (e ∷ es) p = (holds-of e (ap (λ (l : List Exchange). getD l 0 e) p
 
 pub twelve-exchanges-through-calls : EachHolds exchanges
 twelve-exchanges-through-calls = each-holds exchanges twelve-exchanges
+
+pub multi-line-exchanges-through-calls : EachHolds multiLineExchanges
+multi-line-exchanges-through-calls = each-holds multiLineExchanges multi-line-exchanges
 
 pub short-exchanges-computed : map calledBoth (shortOnes exchanges) ≡ map printedBoth (shortOnes exchanges)
 unfolding octets-opened setup-opened answers-opened lines-opened address-opened commands-opened replies-opened exchanges-opened kinds-opened gives-opened places-opened sound-opened upstream-opened downstream-opened steps-opened calls-opened calls-exchanges-opened

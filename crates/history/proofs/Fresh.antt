@@ -111,6 +111,6 @@ fresh-stays su =
         command = length-replicate {A = ℕ} mostHeld 0;
         reply = length-replicate {A = ℕ} mostHeld 0;
         queue = queue-fresh;
-        unfinished = refl;
+        opening = refl;
       };
     }

@@ -84,7 +84,7 @@ module _ (rules : LineRules) where
 
   -- a server octet
   pub does-server : (c : Client rules) (v : ServerState) (x : ℕ)
-      → let t = afterOctet (serverOctet rules (v .place) (v .owed) (v .unfinished) x) [] in
+      → let t = afterOctet (serverOctet rules (v .place) (v .owed) (v .opening) x) [] in
       Does c v (octet server x ∷ []) [] (t .gives) c (t .state)
   unfolding readToClient textOf hasEnded
   does-server c v x = record { toServer = λ js k. refl; toClient = λ js. refl; silent = λ js k. silent-server (c .place) js k }
@@ -117,7 +117,7 @@ module _ (rules : LineRules) where
 
   -- the server's end
   pub does-server-end : (c : Client rules) (v : ServerState)
-      → Does c v (end server ∷ []) [] (held (v .place)) c (record { place = ended; owed = v .owed; unfinished = v .unfinished })
+      → Does c v (end server ∷ []) [] (held (v .place)) c (record { place = ended; owed = v .owed; opening = v .opening })
   unfolding readToClient textOf hasEnded
   does-server-end c v = record { toServer = λ js k. refl; toClient = λ js. refl; silent = λ js k. silent-end (c .place) js k }
     where

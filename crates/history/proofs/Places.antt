@@ -10,9 +10,9 @@ use lib.ListN.{length, take, drop, set, length-set}
 use lib.Seq.{take-suc-set, length-take-le, take-append-le, take-take}
 use borrow.Author.Tests.{eqb-true, ltb-true, ltb-false, eq-eqb, ne-eqb}
 use Rattle.rules.specs.Octets.{lf, choose}
-use Rattle.rules.specs.Lines.{judged, startsAuth, content}
+use Rattle.rules.specs.Lines.{judged, startsAuth, unchanged, content}
 use Rattle.rules.specs.Commands.{command, commandOwes, commandSwitches}
-use Rattle.rules.specs.Replies.{isAuth, replyLine, passiveReply}
+use Rattle.rules.specs.Replies.{isAuth, isOpen, replyLine, passiveReply}
 use Rattle.rules.specs.Edition.{ClientLine, LineRules}
 use Rattle.rules.specs.ToServer.{finishedLine, longOwes}
 use Rattle.rules.specs.ToClient.{
@@ -27,6 +27,7 @@ use Rattle.rules.specs.ToClient.{
   ServerStep,
   finalLineGives,
   wholeLineGives,
+  classedBy,
   serverLine,
   lineOctetGives,
   lineOctet,
@@ -40,7 +41,7 @@ use Rattle.rules.specs.declared.Kind.{Kind}
 use Rattle.rules.specs.declared.Command.{Command}
 use Rattle.rules.specs.declared.ReplyLine.{ReplyLine}
 use Rattle.rules.specs.declared.PassiveReply.{PassiveReply}
-use Rattle.replies.proofs.Flowing.{flowing as by-first-four}
+use Rattle.octets.proofs.Choices.{either}
 use Rattle.places.specs.declared.Place.{Place}
 use Rattle.gives.specs.declared.Gives.{Gives}
 use Rattle.queue.specs.declared.Owes.{Owes}
@@ -143,11 +144,6 @@ pub record Agrees (f : Fixed) (rules : LineRules) : Type 1 where
       → Tied (commandSwitches sw (command f sw l)) (rules .clientLine st l .after)
   pub final : (k : Kind) (l : List ℕ) → givesText f l lf (kindEffect f k (content l)) ≡ rules .finalLine k l
 
--- ---- the reply that a flowing line belongs to is known by its first four octets
-
-reply-flowing : (line l : List ℕ) → judged ≤ length l → FirstFour line l → replyLine (take 4 line) ≡ replyLine (content l)
-reply-flowing line l h e = ap replyLine e ∙ sym (by-first-four l h)
-
 -- ---- one octet
 
 -- its effect on the record, and what it gives and does in the reading
@@ -164,7 +160,7 @@ module _ (f : Fixed) where
   pub record ServerFits (line : List ℕ) (n x : ℕ) (ks : List Kind) (e : ServerEffect) (t : ServerStep) : Type 0 where
     pub gives : givesText f (take n line) x (e .gives) ≡ t .gives
     pub owed : drop (e .removes) ks ≡ t .state .owed
-    pub unfinished : e .unfinished ≡ t .state .unfinished
+    pub opening : e .opening ≡ t .state .opening
     pub full : Full (stored line n x (e .gives))
     pub place : Stands FirstFour (e .direction .place) (e .direction .held) (stored line n x (e .gives)) (t .state .place)
 
@@ -286,40 +282,49 @@ module _ (f : Fixed) (rules : LineRules) (agree : Agrees f rules) where
   stored-first line n x (Kind.Own a ∷ ks) c = refl
   stored-first line n x (Kind.Auth ∷ ks) c = refl
 
-  stored-line : (line : List ℕ) (n x : ℕ) (r : ReplyLine) (u : Bool) (ks : List Kind) (c : List ℕ) → stored line n x (lineGives f r u (firstOf ks) c) ≡ line
+  stored-line : (line : List ℕ) (n x : ℕ) (r : ReplyLine) (u : ℕ) (ks : List Kind) (c : List ℕ) → stored line n x (lineGives f r u (firstOf ks) c) ≡ line
   unfolding stored lineGives choose
-  stored-line line n x ReplyLine.GoesOn u ks c = refl
+  stored-line line n x (ReplyLine.Opens code) u ks c = refl
+  stored-line line n x ReplyLine.Belongs u ks c = refl
+  stored-line line n x ReplyLine.StandsAlone u ks c = refl
   stored-line line n x ReplyLine.Preliminary u ks c = refl
-  stored-line line n x ReplyLine.Final true ks c = refl
-  stored-line line n x ReplyLine.Final false ks c = stored-first line n x ks c
+  stored-line line n x ReplyLine.Final u ks c =
+      either (λ (g : Gives). stored line n x g ≡ line) (isOpen u) _ _ refl (stored-first line n x ks c)
+
+  -- what the only line of a final reply gives, or its last one
+  final-gives : (h : List ℕ) (b : Bool) (k : Kind)
+      → givesText f h lf (choose b Gives.HeldAndOctet (kindEffect f k (content h))) ≡ choose b (unchanged h) (rules .finalLine k h)
+  unfolding givesText choose
+  final-gives h true k = refl
+  final-gives h false k = agree .final k h
 
   -- what a line judged whole gives
-  line-gives : (h : List ℕ) (r : ReplyLine) (u : Bool) (ks : List Kind) → givesText f h lf (lineGives f r u (firstOf ks) (content h)) ≡ wholeLineGives rules ks u h r
+  line-gives : (h : List ℕ) (r : ReplyLine) (u : ℕ) (ks : List Kind) → givesText f h lf (lineGives f r u (firstOf ks) (content h)) ≡ wholeLineGives rules ks u h r
   unfolding lineGives headEffect wholeLineGives finalLineGives givesText choose
-  line-gives h ReplyLine.GoesOn u ks = refl
+  line-gives h (ReplyLine.Opens code) u ks = refl
+  line-gives h ReplyLine.Belongs u ks = refl
+  line-gives h ReplyLine.StandsAlone u ks = refl
   line-gives h ReplyLine.Preliminary u ks = refl
-  line-gives h ReplyLine.Final true [] = refl
-  line-gives h ReplyLine.Final false [] = refl
-  line-gives h ReplyLine.Final true (k ∷ ks) = refl
-  line-gives h ReplyLine.Final false (k ∷ ks) = agree .final k h
+  line-gives h ReplyLine.Final u [] = either (λ (g : Gives). givesText f h lf g ≡ unchanged h) (isOpen u) _ _ refl refl
+  line-gives h ReplyLine.Final u (k ∷ ks) = final-gives h (isOpen u) k
 
-  reply-line-fits : (line : List ℕ) (n : ℕ) (u : Bool) (ks : List Kind) → Full line → n < judged
+  reply-line-fits : (line : List ℕ) (n : ℕ) (u : ℕ) (ks : List Kind) → Full line → n < judged
       → ServerFits f line n lf ks (wholeLine f u (firstOf ks) (content (take n line))) (serverLine rules ks u (take n line))
-  unfolding wholeLine serverLine choose
+  unfolding wholeLine serverLine classedBy choose
   reply-line-fits line n u ks full h =
       let l : List ℕ = take n line in
-      let r : ReplyLine = replyLine (content l) in
+      let r : ReplyLine = replyLine u (content l) in
       let kept : stored line n lf (lineGives f r u (firstOf ks) (content l)) ≡ line = stored-line line n lf r u ks (content l) in
       rw (whole l (omega (arith, length-take-le n line (omega arith))))
       (record {
         gives = line-gives l r u ks;
         owed = removes-drop r ks;
-        unfinished = refl;
+        opening = refl;
         full = rw kept full;
         place = rw kept (begins line);
       })
 
-  reply-octet-fits : (line : List ℕ) (n x : ℕ) (u : Bool) (ks : List Kind) → Full line → n < judged → (b : Bool) → ltb (n + 1) judged ≡ b
+  reply-octet-fits : (line : List ℕ) (n x : ℕ) (u : ℕ) (ks : List Kind) → Full line → n < judged → (b : Bool) → ltb (n + 1) judged ≡ b
       → ServerFits f line n x ks (replyOctet u n) (lineOctet ks u (joined line n x) x)
   unfolding replyOctet lineOctet lineOctetGives choose givesText stored
   reply-octet-fits line n x u ks full h true p =
@@ -328,7 +333,7 @@ module _ (f : Fixed) (rules : LineRules) (agree : Agrees f rules) where
       (record {
         gives = refl;
         owed = refl;
-        unfinished = refl;
+        opening = refl;
         full = length-set line n x ∙ full;
         place = held-more line n x full (ltb-true (n + 1) judged p);
       })
@@ -339,23 +344,23 @@ module _ (f : Fixed) (rules : LineRules) (agree : Agrees f rules) where
       take-append-le 4 (take n line) (x ∷ []) (omega (arith, six, length-take-le n line (omega arith)))
       ∙ take-take 4 n line (omega (arith, six)) in
       rw (p, long (joined line n x) more, eq-eqb (length (joined line n x)) judged (omega arith))
-      (record { gives = refl; owed = refl; unfinished = refl; full = full; place = flowing more (sym four) })
+      (record { gives = refl; owed = refl; opening = refl; full = full; place = flowing more (sym four) })
 
-  held-reply-fits : (line : List ℕ) (n x : ℕ) (u : Bool) (ks : List Kind) → Full line → n < judged → (b : Bool) → eqb x lf ≡ b
+  held-reply-fits : (line : List ℕ) (n x : ℕ) (u : ℕ) (ks : List Kind) → Full line → n < judged → (b : Bool) → eqb x lf ≡ b
       → ServerFits f line n x ks (replyEffect f u (firstOf ks) Place.Holding n line b) (choose b (serverLine rules ks u (take n line)) (lineOctet ks u (joined line n x) x))
   unfolding replyEffect choose
   held-reply-fits line n x u ks full h true p = rw (eqb-true x lf p) (reply-line-fits line n u ks full h)
   held-reply-fits line n x u ks full h false p = reply-octet-fits line n x u ks full h (ltb (n + 1) judged) refl
 
-  flowing-reply-fits : (line l : List ℕ) (x : ℕ) (u : Bool) (ks : List Kind) → Full line → judged ≤ length l → FirstFour line l → (b : Bool) → eqb x lf ≡ b
+  flowing-reply-fits : (line l : List ℕ) (x : ℕ) (u : ℕ) (ks : List Kind) → Full line → judged ≤ length l → FirstFour line l → (b : Bool) → eqb x lf ≡ b
       → ServerFits f line 0 x ks (replyEffect f u (firstOf ks) Place.Flowing 0 line b) (choose b (serverLine rules ks u l) (lineOctet ks u (l ++ (x ∷ [])) x))
-  unfolding replyEffect flowingLine serverLine lineOctet lineOctetGives choose givesText stored
+  unfolding replyEffect flowingLine serverLine classedBy lineOctet lineOctetGives choose givesText stored
   flowing-reply-fits line l x u ks full k e true p =
-      rw (reply-flowing line l k e, long l k, eqb-true x lf p)
+      rw (e, long l k, eqb-true x lf p)
       (record {
         gives = refl;
-        owed = removes-drop (replyLine (content l)) ks;
-        unfinished = refl;
+        owed = removes-drop (replyLine u (take 4 l)) ks;
+        opening = refl;
         full = full;
         place = begins line;
       })
@@ -365,15 +370,15 @@ module _ (f : Fixed) (rules : LineRules) (agree : Agrees f rules) where
       (record {
         gives = refl;
         owed = refl;
-        unfinished = refl;
+        opening = refl;
         full = full;
         place = flowing more (e ∙ sym (take-append-le 4 l (x ∷ []) (omega (arith, six))));
       })
 
-  pub server-fits : (u : Bool) (ks : List Kind) {p : Place} {n : ℕ} {line : List ℕ} {q : Reading} → Stands FirstFour p n line q → Full line → (x : ℕ)
+  pub server-fits : (u : ℕ) (ks : List Kind) {p : Place} {n : ℕ} {line : List ℕ} {q : Reading} → Stands FirstFour p n line q → Full line → (x : ℕ)
       → ServerFits f line n x ks (replyEffect f u (firstOf ks) p n line (eqb x lf)) (serverOctet rules q ks u x)
   unfolding serverOctet replyEffect givesText stored
   server-fits u ks (holding {n = n} {line = line} h) full x = held-reply-fits line n x u ks full h (eqb x lf) refl
   server-fits u ks (flowing {line = line} {l = l} k e) full x = flowing-reply-fits line l x u ks full k e (eqb x lf) refl
-  server-fits u ks passing full x = record { gives = refl; owed = refl; unfinished = refl; full = full; place = passing }
-  server-fits u ks ended full x = record { gives = refl; owed = refl; unfinished = refl; full = full; place = ended }
+  server-fits u ks passing full x = record { gives = refl; owed = refl; opening = refl; full = full; place = passing }
+  server-fits u ks ended full x = record { gives = refl; owed = refl; opening = refl; full = full; place = ended }

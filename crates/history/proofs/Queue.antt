@@ -116,7 +116,9 @@ queue-first {kinds} {owed} q = head-first kinds owed (omega (arith, q .array .si
 
 pub removes-drop : (r : ReplyLine) (ks : List Kind) → drop (lineRemoves r (firstOf ks)) ks ≡ owedAfter r ks
 unfolding lineRemoves headRemoved kindRemoved owedAfter removed
-removes-drop ReplyLine.GoesOn ks = refl
+removes-drop (ReplyLine.Opens code) ks = refl
+removes-drop ReplyLine.Belongs ks = refl
+removes-drop ReplyLine.StandsAlone ks = refl
 removes-drop ReplyLine.Preliminary ks = refl
 removes-drop ReplyLine.Final [] = refl
 removes-drop ReplyLine.Final (Kind.Plain ∷ ks) = refl

@@ -6,7 +6,7 @@ use Prim.Native.Nat.{ℕ, _-_}
 use lib.ListN.{drop}
 use lib.Seq.{drop-drop}
 use Rattle.rules.specs.Octets.{choose}
-use Rattle.rules.specs.Replies.{headAnswers, withoutAnswers, authAtHead}
+use Rattle.rules.specs.Replies.{isOpen, headAnswers, withoutAnswers, authAtHead}
 use Rattle.rules.specs.ToClient.{
   Place as Reading,
   ServerStep,
@@ -28,7 +28,7 @@ pub record Settled (s : State) (n : ℕ) (given : List ℕ) (t : ServerStep) : T
   pub gives : given ++ settledText s n ≡ t .gives
   pub server : Stands FirstFour (settledState s n .control .server .place) (settledState s n .control .server .held) (s .reply) (t .state .place)
   pub queue : Queue (settledState s n .kinds) (settledState s n .control .owed) (t .state .owed)
-  pub unfinished : s .control .unfinished ≡ t .state .unfinished
+  pub opening : s .control .opening ≡ t .state .opening
 
 -- what stands in the queue after the kinds that leave, and what is written for them
 record Left (s : State) (n : ℕ) (ks : List Kind) (text : List ℕ) : Type 0 where
@@ -48,9 +48,9 @@ left s n ks₀ ks q e false p =
       answers = rw (p, now);
     }
 
-module _ (s : State) (n : ℕ) (given : List ℕ) {q : Reading} {ks₀ : List Kind} {u : Bool}
+module _ (s : State) (n : ℕ) (given : List ℕ) {q : Reading} {ks₀ : List Kind} {u : ℕ}
     (stands : Stands FirstFour (s .control .server .place) (s .control .server .held) (s .reply) q) (full : Full (s .reply))
-    (queue : Queue (s .kinds) (s .control .owed) ks₀) (reply : s .control .unfinished ≡ u) where
+    (queue : Queue (s .kinds) (s .control .owed) ks₀) (reply : s .control .opening ≡ u) where
   left-queue : (ks : List Kind) (text : List ℕ) → Left s n ks text → Queue (shifted (s .kinds) (leaving s n) (s .control .owed)) (s .control .owed - leaving s n) ks
   left-queue ks text l =
       let now : drop (leaving s n) ks₀ ≡ ks = ap (λ (k : List Kind). drop (leaving s n) k) (sym (queue .same)) ∙ l .owed in
@@ -65,7 +65,7 @@ module _ (s : State) (n : ℕ) (given : List ℕ) {q : Reading} {ks₀ : List Ki
         gives = rw (next, l .answers, held-octets stands full) (sym (append-assoc given text (held q)));
         server = rw next (passes-on stands);
         queue = left-queue ks text l;
-        unfinished = reply;
+        opening = reply;
       })
   auth-settled ks text l false e =
       let next : authAtHead (owedFrom s (leaving s n)) ≡ false = ap authAtHead (l .owed) ∙ e in
@@ -73,7 +73,7 @@ module _ (s : State) (n : ℕ) (given : List ℕ) {q : Reading} {ks₀ : List Ki
         gives = rw (next, l .answers, append-nil text);
         server = rw next stands;
         queue = left-queue ks text l;
-        unfinished = reply;
+        opening = reply;
       })
 
   answers-settled : (ks : List Kind) → drop n ks₀ ≡ ks → (b : Bool) → blocked (s .control) ≡ b
@@ -84,4 +84,4 @@ module _ (s : State) (n : ℕ) (given : List ℕ) {q : Reading} {ks₀ : List Ki
 
   pub settle : (ks : List Kind) → drop n ks₀ ≡ ks → Settled s n given (authStep (ownAnswers q ks u given))
   unfolding ownAnswers blocked
-  settle ks e = answers-settled ks e (u || readFlowsOrEnded q) (rw (reply, flows-or-ended stands full))
+  settle ks e = answers-settled ks e (isOpen u || readFlowsOrEnded q) (rw (reply, flows-or-ended stands full))

@@ -74,7 +74,7 @@ module _ {f : Fixed} {rules : LineRules} (agree : Agrees f rules) where
     pub command : Full (s .command)
     pub reply : Full (s .reply)
     pub queue : Queue (s .kinds) (s .control .owed) (v .owed)
-    pub unfinished : s .control .unfinished ≡ v .unfinished
+    pub opening : s .control .opening ≡ v .opening
 
 -- ---- room in the queue
 
@@ -128,7 +128,7 @@ module _ {f : Fixed} {rules : LineRules} (agree : Agrees f rules) where
 -- ---- one octet
 
 module _ (f : Fixed) (rules : LineRules) (agree : Agrees f rules) where
-  -- an octet's effect, from the state of the rules, the first kind and the unfinished reply as the reading has them
+  -- an octet's effect, from the state of the rules, the first kind and the opening code as the reading has them
   client-effect : (s : State) (c : Client rules) (v : ServerState) (x : ℕ) → Alike agree s c v
       → ClientFits agree (s .command) (s .control .client .held) x (clientEffectIn f s x)
       (clientGives rules (c .lineState) (c .place) x) (clientOctet rules (c .lineState) (c .place) x)
@@ -137,11 +137,11 @@ module _ (f : Fixed) (rules : LineRules) (agree : Agrees f rules) where
 
   server-effect : (s : State) (c : Client rules) (v : ServerState) (x : ℕ) → Alike agree s c v
       → ServerFits f (s .reply) (s .control .server .held) x (v .owed) (serverEffectIn f s x)
-      (serverOctet rules (v .place) (v .owed) (v .unfinished) x)
+      (serverOctet rules (v .place) (v .owed) (v .opening) x)
   unfolding serverEffectIn serverEffect
-  server-effect s c v x a = by-queue (s .control .unfinished) (v .unfinished) (headOf (s .kinds) (s .control .owed)) (a .unfinished) (queue-first (a .queue))
+  server-effect s c v x a = by-queue (s .control .opening) (v .opening) (headOf (s .kinds) (s .control .owed)) (a .opening) (queue-first (a .queue))
     where
-      by-queue : (u u′ : Bool) (o : Owes) → u ≡ u′ → o ≡ firstOf (v .owed)
+      by-queue : (u u′ : ℕ) (o : Owes) → u ≡ u′ → o ≡ firstOf (v .owed)
           → ServerFits f (s .reply) (s .control .server .held) x (v .owed) (serverEffect f u o (s .control .server) (s .reply) x)
           (serverOctet rules (v .place) (v .owed) u′ x)
       by-queue u u′ o e g = rw (e, g) (server-fits f rules agree u′ (v .owed) (a .server) (a .reply) x)
@@ -156,8 +156,8 @@ module _ (f : Fixed) (rules : LineRules) (agree : Agrees f rules) where
       let fit : ClientFits agree (s .command) (s .control .client .held) x e (clientGives rules (c .lineState) (c .place) x) j = client-effect s c v x a in
       let t : State = clientState s x e in
       let queue : Queue (t .kinds) (t .control .owed) (v .owed ++ j .owes) = rw (fit .owes) at (queue-push (a .queue) (e .owes) (room f s x (a .queue .array .most) notFull)) in
-      let done : Settled t 0 [] (authStep (ownAnswers (v .place) (v .owed ++ j .owes) (v .unfinished) [])) =
-      settle t 0 [] (a .server) (a .reply) queue (a .unfinished) (v .owed ++ j .owes) refl in
+      let done : Settled t 0 [] (authStep (ownAnswers (v .place) (v .owed ++ j .owes) (v .opening) [])) =
+      settle t 0 [] (a .server) (a .reply) queue (a .opening) (v .owed ++ j .owes) refl in
       record {
         done = record {
           client = j .state;
@@ -170,7 +170,7 @@ module _ (f : Fixed) (rules : LineRules) (agree : Agrees f rules) where
             command = fit .full;
             reply = a .reply;
             queue = done .queue;
-            unfinished = done .unfinished;
+            opening = done .opening;
           };
         };
         speaks = speaks-on rules (c .lineState) (c .place) x;
@@ -181,12 +181,12 @@ module _ (f : Fixed) (rules : LineRules) (agree : Agrees f rules) where
   unfolding serverStep serverState settledState afterOctet
   server-does s c v x a =
       let e : ServerEffect = serverEffectIn f s x in
-      let r : ServerStep = serverOctet rules (v .place) (v .owed) (v .unfinished) x in
+      let r : ServerStep = serverOctet rules (v .place) (v .owed) (v .opening) x in
       let fit : ServerFits f (s .reply) (s .control .server .held) x (v .owed) e r = server-effect s c v x a in
       let t : State = serverState s x e in
       let owed : drop (e .removes) (v .owed) ≡ r .state .owed ++ [] = fit .owed ∙ sym (append-nil (r .state .owed)) in
-      let done : Settled t (e .removes) (r .gives) (authStep (ownAnswers (r .state .place) (r .state .owed ++ []) (r .state .unfinished) (r .gives))) =
-      settle t (e .removes) (r .gives) (fit .place) (fit .full) (a .queue) (fit .unfinished) (r .state .owed ++ []) owed in
+      let done : Settled t (e .removes) (r .gives) (authStep (ownAnswers (r .state .place) (r .state .owed ++ []) (r .state .opening) (r .gives))) =
+      settle t (e .removes) (r .gives) (fit .place) (fit .full) (a .queue) (fit .opening) (r .state .owed ++ []) owed in
       record {
         done = record {
           client = c;
@@ -199,7 +199,7 @@ module _ (f : Fixed) (rules : LineRules) (agree : Agrees f rules) where
             command = a .command;
             reply = fit .full;
             queue = done .queue;
-            unfinished = done .unfinished;
+            opening = done .opening;
           };
         };
         speaks = λ h. h;
@@ -245,13 +245,13 @@ module _ (f : Fixed) (rules : LineRules) (agree : Agrees f rules) where
           command = a .command;
           reply = a .reply;
           queue = a .queue;
-          unfinished = a .unfinished;
+          opening = a .opening;
         };
       }
   end-does server s c v a =
       record {
         client = c;
-        server = record { place = readEnded; owed = v .owed; unfinished = v .unfinished };
+        server = record { place = readEnded; owed = v .owed; opening = v .opening };
         does = rw (held-octets (a .server) (a .reply)) (does-server-end rules c v);
         alike = record {
           tied = a .tied;
@@ -260,6 +260,6 @@ module _ (f : Fixed) (rules : LineRules) (agree : Agrees f rules) where
           command = a .command;
           reply = a .reply;
           queue = a .queue;
-          unfinished = a .unfinished;
+          opening = a .opening;
         };
       }

@@ -12,14 +12,15 @@ use Rattle.rules.specs.Lines.{judged, mostHeld}
 use Rattle.rules.specs.Answers.{mostOwed}
 use Rattle.rules.specs.Demand3.{arrival, Return}
 use Rattle.rules.specs.Setup.{ipv4Width}
-use Rattle.records.specs.Layout.{imageSize, mappedAt, commandAt, replyAt, kindsAt}
+use Rattle.records.specs.Layout.{imageSize, openingAt, mappedAt, commandAt, replyAt, kindsAt}
 use Rattle.octets.proofs.Ranges.{and-both}
 use Rattle.session.specs.Bounds.{Shaped, Progress}
 use Rattle.session.specs.Calls.{deadSession}
 use Rattle.answers.proofs.Lengths.{isOctet, octets-all}
 use Rattle.answers.proofs.Bounds.{progress}
-use Rattle.image.specs.Image.{part, fieldsIn, isImage, sessionOf}
+use Rattle.image.specs.Image.{part, controlIn, fieldsIn, isImage, sessionOf}
 use Rattle.image.specs.Lent.{arrivedOn}
+use Rattle.image.proofs.Again.{number-low}
 use Rattle.image.proofs.Back.{dead-sized}
 use Rattle.hosts.specs.Memory.{outcomeAt, HostPromise}
 use Rattle.answers.proofs.Rows.{same-number}
@@ -39,7 +40,7 @@ module _ (image : List ℕ) (octets : (i : ℕ) → getD image i 0 < 256) where
       (λ j less. rw (getD-take n (drop i image) j 0 (omega (arith, part-length i n h)), getD-drop i image j 0) (omega (arith, octets (i + j))))
 
   by-image : (b : Bool) → isImage image ≡ b → Shaped (choose b (fieldsIn image) deadSession)
-  unfolding isImage choose fieldsIn judged
+  unfolding isImage choose fieldsIn controlIn deadSession judged
   by-image true e =
       let room = leb-true imageSize (length image) (and-both _ _ (and-both _ _ e .0) .0) in
       record {
@@ -48,6 +49,7 @@ module _ (image : List ℕ) (octets : (i : ℕ) → getD image i 0 < 256) where
         command = part-length commandAt mostHeld (omega arith);
         reply = part-length replyAt mostHeld (omega arith);
         kinds = part-length kindsAt mostOwed (omega arith);
+        opening = number-low image room octets openingAt;
       }
   by-image false e =
       record {
@@ -56,6 +58,7 @@ module _ (image : List ℕ) (octets : (i : ℕ) → getD image i 0 < 256) where
         command = dead-sized .command;
         reply = dead-sized .reply;
         kinds = dead-sized .kinds;
+        opening = omega arith;
       }
 
   image-shaped : Shaped (sessionOf image)

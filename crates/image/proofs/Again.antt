@@ -12,7 +12,7 @@ use Rattle.rules.specs.Octets.{choose, every}
 use Rattle.rules.specs.Answers.{wrapped, mostOwed}
 use Rattle.rules.specs.Lines.{mostHeld}
 use Rattle.rules.specs.Setup.{ipv6Width, ipv4Width}
-use Rattle.records.specs.Layout.{numberWidth, liveAt, supportedAt, epsvAt, clientPlaceAt, owedAt, clientHeldAt, serverHeldAt, upTakenAt, upWrittenAt, downTakenAt, downWrittenAt, clientAt, mappedAt, kindsAt, commandAt, imageSize, lentSize, linesSize, bitsSize, placesSize, marksSize, numbersSize}
+use Rattle.records.specs.Layout.{numberWidth, liveAt, supportedAt, epsvAt, clientPlaceAt, openingAt, owedAt, clientHeldAt, serverHeldAt, upTakenAt, upWrittenAt, downTakenAt, downWrittenAt, clientAt, mappedAt, kindsAt, commandAt, imageSize, lentSize, linesSize, bitsSize, placesSize, marksSize, numbersSize}
 use Rattle.octets.proofs.Ranges.{and-both}
 use Rattle.output.specs.Buffer.{putAt}
 use Rattle.image.specs.Image.{
@@ -69,22 +69,20 @@ four-same a b c d n ha hb hc hd e = four-list n (omega arith) (omega arith) (ome
 marks-same : (image : List ℕ) → marksSize ≤ length image → atMost 1 (part image liveAt bitsSize) ≡ true → atMost 3 (part image clientPlaceAt placesSize) ≡ true
     → marksOf (fieldsIn image) ≡ part image liveAt marksSize
 unfolding atMost every marksOf fieldsIn controlIn
-marks-same (a ∷ b ∷ c ∷ d ∷ e ∷ f ∷ g ∷ rest) h m p =
-    let m1 = and-both (leb a 1) (leb b 1 && (leb c 1 && (leb d 1 && (leb e 1 && true)))) m in
-    let m2 = and-both (leb b 1) (leb c 1 && (leb d 1 && (leb e 1 && true))) (m1 .1) in
-    let m3 = and-both (leb c 1) (leb d 1 && (leb e 1 && true)) (m2 .1) in
-    let m4 = and-both (leb d 1) (leb e 1 && true) (m3 .1) in
-    let m5 = and-both (leb e 1) true (m4 .1) in
+marks-same (a ∷ b ∷ c ∷ d ∷ f ∷ g ∷ rest) h m p =
+    let m1 = and-both (leb a 1) (leb b 1 && (leb c 1 && (leb d 1 && true))) m in
+    let m2 = and-both (leb b 1) (leb c 1 && (leb d 1 && true)) (m1 .1) in
+    let m3 = and-both (leb c 1) (leb d 1 && true) (m2 .1) in
+    let m4 = and-both (leb d 1) true (m3 .1) in
     let p1 = and-both (leb f 3) (leb g 3 && true) p in
     let p2 = and-both (leb g 3) true (p1 .1) in
-    rw (octet-bit a (m1 .0), octet-bit b (m2 .0), octet-bit c (m3 .0), octet-bit d (m4 .0), octet-bit e (m5 .0), octet-place f (p1 .0), octet-place g (p2 .0))
+    rw (octet-bit a (m1 .0), octet-bit b (m2 .0), octet-bit c (m3 .0), octet-bit d (m4 .0), octet-place f (p1 .0), octet-place g (p2 .0))
 marks-same [] h m p = absurd (omega arith)
 marks-same (_ ∷ []) h m p = absurd (omega arith)
 marks-same (_ ∷ _ ∷ []) h m p = absurd (omega arith)
 marks-same (_ ∷ _ ∷ _ ∷ []) h m p = absurd (omega arith)
 marks-same (_ ∷ _ ∷ _ ∷ _ ∷ []) h m p = absurd (omega arith)
 marks-same (_ ∷ _ ∷ _ ∷ _ ∷ _ ∷ []) h m p = absurd (omega arith)
-marks-same (_ ∷ _ ∷ _ ∷ _ ∷ _ ∷ _ ∷ []) h m p = absurd (omega arith)
 
 -- ---- the numbers and the arrays
 
@@ -112,17 +110,17 @@ module _ (image : List ℕ) (long : imageSize ≤ length image) (octets : (i : �
   number-same i h =
       four-same _ _ _ _ (countAt image i) (octets i) (octets (suc i)) (octets (suc (suc i))) (octets (suc (suc (suc i)))) (number-value i) ∙ sym (part-four i h)
 
-  number-low : (i : ℕ) → countAt image i < 2 ^ 32
+  pub number-low : (i : ℕ) → countAt image i < 2 ^ 32
   number-low i = omega (arith, number-value i, octets i, octets (suc i), octets (suc (suc i)), octets (suc (suc (suc i))))
 
   count-same : (i : ℕ) → suc (suc (suc i)) < length image → fourOctets (capped (countAt image i)) ≡ part image i numberWidth
   count-same i h = ap fourOctets (capped-same (countAt image i) (number-low i)) ∙ number-same i h
 
-  numbers-same : numbersOf (fieldsIn image) ≡ part image owedAt numbersSize
+  numbers-same : numbersOf (fieldsIn image) ≡ part image openingAt numbersSize
   unfolding numbersOf fieldsIn controlIn countsAt
   numbers-same =
-      rw (count-same owedAt (omega arith), count-same clientHeldAt (omega arith), count-same serverHeldAt (omega arith), number-same upTakenAt (omega arith), number-same upWrittenAt (omega arith), number-same downTakenAt (omega arith), number-same downWrittenAt (omega arith))
-      (rw (adjoined image downTakenAt numberWidth numberWidth, adjoined image upWrittenAt numberWidth (clientAt - downTakenAt), adjoined image upTakenAt numberWidth (clientAt - upWrittenAt), adjoined image serverHeldAt numberWidth (clientAt - upTakenAt), adjoined image clientHeldAt numberWidth (clientAt - serverHeldAt), adjoined image owedAt numberWidth (clientAt - clientHeldAt)))
+      rw (number-same openingAt (omega arith), count-same owedAt (omega arith), count-same clientHeldAt (omega arith), count-same serverHeldAt (omega arith), number-same upTakenAt (omega arith), number-same upWrittenAt (omega arith), number-same downTakenAt (omega arith), number-same downWrittenAt (omega arith))
+      (rw (adjoined image downTakenAt numberWidth numberWidth, adjoined image upWrittenAt numberWidth (clientAt - downTakenAt), adjoined image upTakenAt numberWidth (clientAt - upWrittenAt), adjoined image serverHeldAt numberWidth (clientAt - upTakenAt), adjoined image clientHeldAt numberWidth (clientAt - serverHeldAt), adjoined image owedAt numberWidth (clientAt - clientHeldAt), adjoined image openingAt numberWidth (clientAt - owedAt)))
 
   arrays-same : arraysOf (fieldsIn image) ≡ part image clientAt lentSize
   unfolding arraysOf fieldsIn
@@ -130,7 +128,7 @@ module _ (image : List ℕ) (long : imageSize ≤ length image) (octets : (i : �
 
   image-same : atMost 1 (part image liveAt bitsSize) ≡ true → atMost 3 (part image clientPlaceAt placesSize) ≡ true → imageOf (fieldsIn image) ≡ take imageSize image
   unfolding imageOf
-  image-same m p = rw (marks-same image (omega arith) m p, numbers-same, arrays-same, adjoined image owedAt numbersSize lentSize) (adjoined image liveAt marksSize (imageSize - owedAt))
+  image-same m p = rw (marks-same image (omega arith) m p, numbers-same, arrays-same, adjoined image openingAt numbersSize lentSize) (adjoined image liveAt marksSize (imageSize - openingAt))
 
 -- the three tests of an image
 tests : (image : List ℕ) → isImage image ≡ true

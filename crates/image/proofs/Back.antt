@@ -96,7 +96,7 @@ module _ (s : Session) (rest : List ℕ) (h : Sized s) where
 
   marks : atMost 1 (part image liveAt bitsSize) ≡ true
   unfolding imageOf marksOf atMost every
-  marks = rw (bit-most (s .live), bit-most (s .fixed .supported), bit-most (s .control .switches .epsv), bit-most (s .control .switches .eprt), bit-most (s .control .unfinished))
+  marks = rw (bit-most (s .live), bit-most (s .fixed .supported), bit-most (s .control .switches .epsv), bit-most (s .control .switches .eprt))
 
   places : atMost 3 (part image clientPlaceAt placesSize) ≡ true
   unfolding imageOf marksOf atMost every
@@ -141,13 +141,13 @@ module _ (s : Session) (rest : List ℕ) (h : Sized s) where
 
   -- ---- the marks and the numbers
 
-  -- counts that fit in 32 bits
-  module _ (owed : s .control .owed < 2 ^ 32) (command : s .control .client .held < 2 ^ 32) (reply : s .control .server .held < 2 ^ 32) where
+  -- an opening code and counts that fit in 32 bits
+  module _ (opening : s .control .opening < 2 ^ 32) (owed : s .control .owed < 2 ^ 32) (command : s .control .client .held < 2 ^ 32) (reply : s .control .server .held < 2 ^ 32) where
     control-back : controlIn image ≡ s .control
     unfolding controlIn countAt imageOf marksOf numbersOf fourOctets
     control-back =
         let c = s .control in
-        rw (bit-set (c .switches .epsv), bit-set (c .switches .eprt), bit-set (c .unfinished), place-back (c .client .place), place-back (c .server .place), capped-back (c .owed) owed, capped-back (c .client .held) command, capped-back (c .server .held) reply)
+        rw (bit-set (c .switches .epsv), bit-set (c .switches .eprt), place-back (c .client .place), place-back (c .server .place), four-back (c .opening) opening, capped-back (c .owed) owed, capped-back (c .client .held) command, capped-back (c .server .held) reply)
 
     up-back : Wrapped (s .up) → countsAt image upTakenAt ≡ s .up
     unfolding countsAt countAt imageOf marksOf numbersOf fourOctets
@@ -171,9 +171,9 @@ module _ (s : Session) (rest : List ℕ) (h : Sized s) where
         rw (image-is, live-back, supported-back, client-back, mapped-back, kinds-back, command-back, reply-back, control-back, up-back u, down-back d)
 
 pub read-back : ReadBack
-read-back s rest h up down ok =
+read-back s rest h opening up down ok =
     let k = sound-countable s ok in
-    fields-back s rest h (omega (arith, k .owed)) (omega (arith, k .command)) (omega (arith, k .reply)) up down
+    fields-back s rest h opening (omega (arith, k .owed)) (omega (arith, k .command)) (omega (arith, k .reply)) up down
 
 pub dead-sized : Sized deadSession
 unfolding deadSession judged
@@ -190,7 +190,7 @@ pub dead-back : DeadBack
 unfolding deadSession
 dead-back rest =
     let none : Wrapped (deadSession .up) = record { taken = omega arith; written = omega arith } in
-    fields-back deadSession rest dead-sized (omega arith) (omega arith) (omega arith) none none
+    fields-back deadSession rest dead-sized (omega arith) (omega arith) (omega arith) (omega arith) none none
 
 pub dead-zero : DeadZero
 unfolding deadSession judged imageOf marksOf numbersOf arraysOf fourOctets capped choose markOf

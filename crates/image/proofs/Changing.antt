@@ -8,7 +8,7 @@ use lib.ListN.{length, take, drop, set, getD, length-append}
 use lib.Seq.{take-append-le, drop-append-le}
 use Rattle.rules.specs.Octets.{choose}
 use Rattle.rules.specs.Answers.{Side, client, server, wrapped}
-use Rattle.records.specs.Layout.{owedAt, serverHeldAt, upTakenAt, upWrittenAt, downTakenAt, downWrittenAt, imageSize}
+use Rattle.records.specs.Layout.{openingAt, serverHeldAt, upTakenAt, upWrittenAt, downTakenAt, downWrittenAt, imageSize}
 use Rattle.output.specs.Buffer.{putAt}
 use Rattle.output.proofs.Placing.{put-fits, length-put, one-put}
 use Rattle.output.proofs.Front.{front-put}
@@ -56,7 +56,7 @@ stored l room {l′} {t} f i x there =
 -- ---- the three fields that an end changes
 
 -- they lie among the marks and numbers
-pub fields-low : (d : Side) → (placeAt d < owedAt) × (heldAt d ≤ serverHeldAt) × (writtenAt d ≤ downWrittenAt)
+pub fields-low : (d : Side) → (placeAt d < openingAt) × (heldAt d ≤ serverHeldAt) × (writtenAt d ≤ downWrittenAt)
 fields-low client = (omega arith, omega arith, omega arith)
 fields-low server = (omega arith, omega arith, omega arith)
 

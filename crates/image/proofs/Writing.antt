@@ -18,12 +18,12 @@ pub andThen : (out : List ℕ) (at : ℕ) (a b : List ℕ) {after last : List �
     → PutInRoom after next b end last → PutInRoom out at (a ++ b) end last
 andThen out at a b one rest = joined out at a b (λ room. one) rest
 
--- numbers that were put, where they are the counts of a control in 32 bits
+-- numbers that were put, where they are the opening code and the counts of a control, in 32 bits
 pub numbers-put : (out : List ℕ) (at : ℕ) (c : Control) (up down : Counts) {owed command reply end : ℕ} {last : List ℕ} → owed ≡ capped (c .owed)
     → command ≡ capped (c .client .held) → reply ≡ capped (c .server .held)
-    → PutInRoom out at (numbersBy owed command reply up down) end last → PutInRoom out at (numbersFrom c up down) end last
+    → PutInRoom out at (numbersBy (c .opening) owed command reply up down) end last → PutInRoom out at (numbersFrom c up down) end last
 numbers-put out at c up down {end = end} {last = last} eo ec er =
-    subst (λ (l : List ℕ). PutInRoom out at l end last) (λ i. numbersBy (eo i) (ec i) (er i) up down)
+    subst (λ (l : List ℕ). PutInRoom out at l end last) (λ i. numbersBy (c .opening) (eo i) (ec i) (er i) up down)
 
 pub front-length : (live supported : Bool) (c : Control) (up down : Counts) → length (marksFrom live supported c ++ numbersFrom c up down) ≡ clientAt
 unfolding fourOctets

@@ -10,7 +10,7 @@ use Rattle.rules.specs.Lines.{mostHeld}
 use Rattle.rules.specs.Answers.{mostOwed}
 use Rattle.rules.specs.Setup.{ipv6Width, ipv4Width}
 use Rattle.rules.specs.declared.Fixed.{Fixed}
-use Rattle.records.specs.Layout.{numberWidth, liveAt, supportedAt, epsvAt, eprtAt, unfinishedAt, clientPlaceAt, serverPlaceAt, owedAt, clientHeldAt, serverHeldAt, upTakenAt, downTakenAt, clientAt, mappedAt, kindsAt, commandAt, replyAt, imageSize, bitsSize, placesSize}
+use Rattle.records.specs.Layout.{numberWidth, liveAt, supportedAt, epsvAt, eprtAt, clientPlaceAt, serverPlaceAt, openingAt, owedAt, clientHeldAt, serverHeldAt, upTakenAt, downTakenAt, clientAt, mappedAt, kindsAt, commandAt, replyAt, imageSize, bitsSize, placesSize}
 use Rattle.places.specs.declared.Place.{Place}
 use Rattle.places.specs.Places.{at}
 use Rattle.records.specs.declared.Control.{Control}
@@ -46,7 +46,7 @@ capped n = choose (leb n (2 ^ 32 - 1)) n (2 ^ 32 - 1)
 -- the marks of a control, which calls can change
 abbrev pub marksIn : Control → List ℕ
 marksIn c =
-    markOf (c .switches .epsv) ∷ markOf (c .switches .eprt) ∷ markOf (c .unfinished)
+    markOf (c .switches .epsv) ∷ markOf (c .switches .eprt)
     ∷ placeNumber (c .client .place) ∷ placeNumber (c .server .place) ∷ []
 
 -- behind two that stay from the setup on
@@ -57,20 +57,21 @@ marksFrom live supported c = markOf live ∷ markOf supported ∷ marksIn c
 unfoldable pub marksOf : Session → List ℕ
 marksOf s = marksFrom (s .live) (s .fixed .supported) (s .control)
 
--- the replies owed, the octets held of both lines, and what is counted
-abbrev pub numbersBy : ℕ → ℕ → ℕ → Counts → Counts → List ℕ
-numbersBy owed command reply up down =
-    fourOctets owed
+-- the opening code, the replies owed, the octets held of both lines, and what is counted
+abbrev pub numbersBy : ℕ → ℕ → ℕ → ℕ → Counts → Counts → List ℕ
+numbersBy opening owed command reply up down =
+    fourOctets opening
+    ++ (fourOctets owed
     ++ (fourOctets command
     ++ (fourOctets reply
     ++ (fourOctets (up .taken)
     ++ (fourOctets (up .written)
     ++ (fourOctets (down .taken)
-    ++ fourOctets (down .written))))))
+    ++ fourOctets (down .written)))))))
 
 -- the same of a control, each count in 32 bits
 abbrev pub numbersFrom : Control → Counts → Counts → List ℕ
-numbersFrom c up down = numbersBy (capped (c .owed)) (capped (c .client .held)) (capped (c .server .held)) up down
+numbersFrom c up down = numbersBy (c .opening) (capped (c .owed)) (capped (c .client .held)) (capped (c .server .held)) up down
 
 -- all numbers of a record
 unfoldable pub numbersOf : Session → List ℕ
@@ -118,7 +119,7 @@ controlIn image =
       client = at (placeOf (getD image clientPlaceAt 0)) (countAt image clientHeldAt);
       server = at (placeOf (getD image serverPlaceAt 0)) (countAt image serverHeldAt);
       owed = countAt image owedAt;
-      unfinished = isSet image unfinishedAt;
+      opening = countAt image openingAt;
     }
 
 -- what the setup fixed
@@ -174,7 +175,7 @@ pub record Wrapped (c : Counts) : Type 0 where
 -- a record that number 4 does not refuse comes back from its image, whatever octets follow it
 abbrev pub ReadBack : Type 0
 ReadBack =
-    (s : Session) (rest : List ℕ) → Sized s → Wrapped (s .up) → Wrapped (s .down) → sound s ≡ true
+    (s : Session) (rest : List ℕ) → Sized s → s .control .opening < 2 ^ 32 → Wrapped (s .up) → Wrapped (s .down) → sound s ≡ true
     → sessionOf (imageOf s ++ rest) ≡ s
 
 -- so does that of a refused setup

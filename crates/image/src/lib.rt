@@ -53,7 +53,16 @@ pub fn put_image(image: &mut [u8], session: Session)
     let owed = capped(control.owed);
     let command = capped(said.held);
     let reply = capped(answered.held);
-    let counted = put_numbers(image, marked, owed, command, reply, up, down);
+    let counted = put_numbers(
+        image,
+        marked,
+        control.opening,
+        owed,
+        command,
+        reply,
+        up,
+        down,
+    );
     put_arrays(image, counted, session);
 }
 
@@ -77,7 +86,6 @@ fn put_control(out: &mut [u8], at: usize, control: Control) -> usize
     let marks = [
         bit(switches.epsv),
         bit(switches.eprt),
-        bit(control.unfinished),
         place_number(client_place),
         place_number(server_place),
     ];
@@ -104,19 +112,23 @@ fn place_number(place: Place) -> u8
     }
 }
 
-// The replies owed and the octets held of the client's and the server's line, then what is counted.
+// The opening code, the replies owed and the octets held of the client's and the server's line, then what is counted.
 fn put_numbers(
     out: &mut [u8],
     at: usize,
+    opening: u32,
     owed: u32,
     command: u32,
     reply: u32,
     up: Counts,
     down: Counts,
 ) -> usize
-    ensures { λ r. ⌜ PutInRoom (now (out .entry)) at (numbersBy owed command reply up down) r (now (out .exit)) ⌝ }
+    ensures { λ r.
+        let text = numbersBy opening owed command reply up down in
+        ⌜ PutInRoom (now (out .entry)) at text r (now (out .exit)) ⌝ }
 {
-    let mut next = put_number(out, at, owed);
+    let mut next = put_number(out, at, opening);
+    next = put_number(out, next, owed);
     next = put_number(out, next, command);
     next = put_number(out, next, reply);
     next = put_number(out, next, up.taken);
@@ -184,7 +196,16 @@ fn put_back(image: &mut [u8], control: Control, up: Counts, down: Counts)
     let command = uncapped(said.held);
     let reply = uncapped(answered.held);
     let marked = put_control(image, layout::EPSV, control);
-    put_numbers(image, marked, owed, command, reply, up, down);
+    put_numbers(
+        image,
+        marked,
+        control.opening,
+        owed,
+        command,
+        reply,
+        up,
+        down,
+    );
 }
 
 // The record of an image. Octets that are no image are a record that number 4 refuses.
@@ -207,7 +228,7 @@ fn is_image(image: &[u8]) -> bool
     if !at_most(&image[layout::LIVE..layout::CLIENT_PLACE], 1) {
         return false;
     }
-    at_most(&image[layout::CLIENT_PLACE..layout::COUNT_OWED], 3)
+    at_most(&image[layout::CLIENT_PLACE..layout::OPENING], 3)
 }
 
 fn dead() -> Session
@@ -306,7 +327,7 @@ fn control_in(image: &[u8]) -> Control
         client,
         server,
         owed: number_at(image, layout::COUNT_OWED) as usize,
-        unfinished: image[layout::UNFINISHED] == 1,
+        opening: number_at(image, layout::OPENING),
     }
 }
 

@@ -30,19 +30,19 @@ epsvAt = supportedAt + markWidth
 abbrev pub eprtAt : ℕ
 eprtAt = epsvAt + markWidth
 
-abbrev pub unfinishedAt : ℕ
-unfinishedAt = eprtAt + markWidth
-
 abbrev pub clientPlaceAt : ℕ
-clientPlaceAt = unfinishedAt + markWidth
+clientPlaceAt = eprtAt + markWidth
 
 abbrev pub serverPlaceAt : ℕ
 serverPlaceAt = clientPlaceAt + markWidth
 
 -- ---- the numbers
 
+abbrev pub openingAt : ℕ
+openingAt = serverPlaceAt + markWidth
+
 abbrev pub owedAt : ℕ
-owedAt = serverPlaceAt + markWidth
+owedAt = openingAt + numberWidth
 
 abbrev pub clientHeldAt : ℕ
 clientHeldAt = owedAt + numberWidth
@@ -89,13 +89,13 @@ abbrev pub bitsSize : ℕ
 bitsSize = clientPlaceAt - liveAt
 
 abbrev pub placesSize : ℕ
-placesSize = owedAt - clientPlaceAt
+placesSize = openingAt - clientPlaceAt
 
 abbrev pub marksSize : ℕ
-marksSize = owedAt - liveAt
+marksSize = openingAt - liveAt
 
 abbrev pub numbersSize : ℕ
-numbersSize = clientAt - owedAt
+numbersSize = clientAt - openingAt
 
 -- the two lines
 abbrev pub linesSize : ℕ

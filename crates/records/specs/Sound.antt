@@ -8,6 +8,7 @@ use lib.Dec.{leb}
 use lib.ListN.{take}
 use Rattle.rules.specs.Octets.{every}
 use Rattle.rules.specs.Lines.{mostHeld}
+use Rattle.rules.specs.Replies.{isOpen}
 use Rattle.rules.specs.Answers.{Side, client, server, sideOf, mostOwed, soundHeld, soundRecord, refusal}
 use Rattle.rules.specs.declared.Answer.{Answer}
 use Rattle.queue.specs.Kinds.{isListed}
@@ -69,7 +70,7 @@ sideIf false = server
 
 -- "unless a reply is unfinished, a server line is flowing, or the server direction has ended"
 unfoldable pub blocked : Control → Bool
-blocked c = c .unfinished || isFlowingOrEnded (c .server .place)
+blocked c = isOpen (c .opening) || isFlowingOrEnded (c .server .place)
 
 -- this page's definitions, for a proof that computes with them
 unfoldable pub sound-opened : Unit {0}

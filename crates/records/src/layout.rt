@@ -19,14 +19,14 @@ pub const EPSV: usize = SUPPORTED + MARK;
 
 pub const EPRT: usize = EPSV + MARK;
 
-pub const UNFINISHED: usize = EPRT + MARK;
-
-pub const CLIENT_PLACE: usize = UNFINISHED + MARK;
+pub const CLIENT_PLACE: usize = EPRT + MARK;
 
 pub const SERVER_PLACE: usize = CLIENT_PLACE + MARK;
 
 // The numbers.
-pub const COUNT_OWED: usize = SERVER_PLACE + MARK;
+pub const OPENING: usize = SERVER_PLACE + MARK;
+
+pub const COUNT_OWED: usize = OPENING + NUMBER;
 
 pub const CLIENT_HELD: usize = COUNT_OWED + NUMBER;
 

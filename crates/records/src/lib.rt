@@ -29,7 +29,8 @@ pub struct Control {
     pub client: Direction,
     pub server: Direction,
     pub owed: usize,
-    pub unfinished: bool,
+    // The code that opened the server's reply of several lines, as a number; 0 where none is open.
+    pub opening: u32,
 }
 
 // Octets taken from a direction and written for it, in 32 bits that wrap.
@@ -147,7 +148,7 @@ pub fn refusal_of(session: Session, direction: u8) -> Refusal
 pub fn blocked(control: Control) -> bool
     ensures { λ r. ⌜ r ≡ isBlocked control ⌝ }
 {
-    if control.unfinished {
+    if control.opening != 0 {
         return true;
     }
     let server = control.server;
@@ -170,13 +171,13 @@ pub fn with_client(control: Control, switches: Switches, client: Direction, owed
         client,
         server: other,
         owed,
-        unfinished: control.unfinished,
+        opening: control.opening,
     }
 }
 
 // The control with what the server's octets, and the queue that settles, change.
-pub fn with_server(control: Control, server: Direction, owed: usize, unfinished: bool) -> Control
-    ensures { λ r. ⌜ r ≡ withServer control server owed unfinished ⌝ }
+pub fn with_server(control: Control, server: Direction, owed: usize, opening: u32) -> Control
+    ensures { λ r. ⌜ r ≡ withServer control server owed opening ⌝ }
 {
     let switches = control.switches;
     let other = control.client;
@@ -185,7 +186,7 @@ pub fn with_server(control: Control, server: Direction, owed: usize, unfinished:
         client: other,
         server,
         owed,
-        unfinished,
+        opening,
     }
 }
 
@@ -200,7 +201,7 @@ pub fn with_ended(control: Control, from_client: bool) -> Control
     if from_client {
         return with_client(control, control.switches, ended, control.owed);
     }
-    with_server(control, ended, control.owed, control.unfinished)
+    with_server(control, ended, control.owed, control.opening)
 }
 
 // The next octet is the client's, AUTH is not yet recognised, and 16 replies are owed.

@@ -1,18 +1,20 @@
 -- Laws of the tests of a server line's first octets, and of the rules by them.
-use mathlib.Core.Path.{_≡_, refl, sym}
+use mathlib.Core.Path.{_≡_, refl, sym, _∙_}
 use mathlib.Core.Bool.{Bool, true, false, _&&_, _||_, and-false}
 use mathlib.Core.List.{List, [], _∷_}
 use Prim.Native.Nat.{ℕ, _+_, _<_, _≤_}
 use native.Mathlib.Omega.{arith}
 use lib.Dec.{leb, eqb}
 use lib.ListN.{length, getD, take, drop, length-take}
-use borrow.Author.Tests.{lt-leb, le-leb, leb-true, leb-false}
-use Rattle.rules.specs.Octets.{space, oct, choose, equal, within, digit, notDigit, run}
-use Rattle.rules.specs.Replies.{endsReply, replyLine, numbers, passivePort, passiveReply}
+use borrow.Author.Tests.{lt-leb, le-leb, leb-true, leb-false, ne-eqb}
+use Rattle.rules.specs.Octets.{space, hyphen, oct, choose, equal, within, digit, notDigit, run}
+use Rattle.rules.specs.Replies.{startsWithCode, replyCode, replyEnd, lineOutside, lineInside, isOpen, replyLine, openingAfter, numbers, passivePort, passiveReply}
 use Rattle.rules.specs.declared.PassiveReply.{PassiveReply}
 use Rattle.rules.specs.declared.ReplyLine.{ReplyLine}
+use Rattle.octets.proofs.Choices.{either, by-test}
+use Rattle.octets.proofs.Ranges.{and-both, within-bounds}
 use Rattle.octets.proofs.Words.{equal-lengths}
-use Rattle.replies.specs.Codes.{startsWithCode, startsWith227}
+use Rattle.replies.specs.Codes.{startsWith227}
 use Rattle.octets.proofs.Runs.{after-at}
 
 -- a test that fewer than k octets fail: who passes it has k octets
@@ -51,14 +53,63 @@ pub code-digits : (c : List ℕ) (d e : Bool) → 49 ≤ getD c 0 0 → getD c 0
 unfolding startsWithCode
 code-digits c d e lo hi p q = rw (p, q, le-leb 49 _ lo, le-leb _ 53 hi)
 
--- what a line is to its reply without a code, and with one by what follows it
-pub without-code : (c : List ℕ) → startsWithCode c ≡ false → ReplyLine.GoesOn ≡ replyLine c
-unfolding startsWithCode endsReply replyLine choose
-without-code c h = rw h
+-- each of its octets is a digit
+pub code-each : (c : List ℕ) → startsWithCode c ≡ true → (digit (getD c 0 0) ≡ true) × (digit (getD c 1 0) ≡ true) × (digit (getD c 2 0) ≡ true)
+unfolding startsWithCode
+code-each c h =
+    let last = and-both (within 49 53 (getD c 0 0) && digit (getD c 1 0)) (digit (getD c 2 0)) h in
+    let first = and-both (within 49 53 (getD c 0 0)) (digit (getD c 1 0)) (last .0) in
+    let bounds = within-bounds 49 53 (getD c 0 0) (first .0) in
+    let low = bounds .0 in
+    let high = bounds .1 in
+    (rw (le-leb 48 (getD c 0 0) (omega arith), le-leb (getD c 0 0) 57 (omega arith)), first .1, last .1)
 
-pub with-code : (c : List ℕ) (b : Bool) → startsWithCode c ≡ true → (eqb (length c) 3 || eqb (getD c 3 0) space) ≡ b → replyLine c ≡ choose b (choose (eqb (getD c 0 0) 49) ReplyLine.Preliminary ReplyLine.Final) ReplyLine.GoesOn
-unfolding startsWithCode endsReply replyLine
-with-code c b h e = rw (h, e)
+-- three digits write a number below a thousand
+code-most : (c : List ℕ) → startsWithCode c ≡ true → replyCode c < 1000
+unfolding replyCode
+code-most c h =
+    let each = code-each c h in
+    let a = within-bounds 48 57 (getD c 0 0) (each .0) .1 in
+    let b = within-bounds 48 57 (getD c 1 0) (each .1) .1 in
+    let d = within-bounds 48 57 (getD c 2 0) (each .2) .1 in
+    omega arith
+
+-- ---- what a line is outside, by its code and what follows it
+
+pub outside-by : (c : List ℕ) (a b h : Bool) → startsWithCode c ≡ a → (eqb (length c) 3 || eqb (getD c 3 0) space) ≡ b
+    → eqb (getD c 3 0) hyphen ≡ h
+    → lineOutside c ≡ choose a (choose b (replyEnd c) (choose h (ReplyLine.Opens (replyCode c)) ReplyLine.StandsAlone)) ReplyLine.StandsAlone
+unfolding lineOutside
+outside-by c a b h p q r = rw (p, q, r)
+
+-- ---- and inside
+
+pub inside-by : (o : ℕ) (c : List ℕ) (a b d : Bool) → startsWithCode c ≡ a → eqb (replyCode c) o ≡ b → eqb (getD c 3 0) space ≡ d
+    → lineInside o c ≡ choose (a && b && d) (replyEnd c) ReplyLine.Belongs
+unfolding lineInside
+inside-by o c a b d p q r = rw (p, q, r)
+
+-- without a space behind the code it belongs
+pub inside-no-space : (o : ℕ) (c : List ℕ) → (getD c 3 0 ≡ space → ⊥) → ReplyLine.Belongs ≡ lineInside o c
+unfolding choose
+inside-no-space o c n =
+    let same = inside-by o c (startsWithCode c) (eqb (replyCode c) o) false refl refl (ne-eqb (getD c 3 0) space n) in
+    sym (same ∙ rw (and-false (startsWithCode c && eqb (replyCode c) o)))
+
+-- ---- the opening code behind a line
+
+-- it is the one before, or has three digits
+pub opening-low : (o : ℕ) (c : List ℕ) (most : ℕ) → 1000 ≤ most → o < most → openingAfter o (replyLine o c) < most
+unfolding replyLine lineInside lineOutside replyEnd
+opening-low o c most enough low =
+    let Low : ReplyLine → Type 0 = λ r. openingAfter o r < most in
+    let ends : Low (replyEnd c) = either Low (eqb (getD c 0 0) 49) _ _ (omega arith) (omega arith) in
+    either Low (isOpen o) (lineInside o c) (lineOutside c)
+    (either Low (startsWithCode c && eqb (replyCode c) o && eqb (getD c 3 0) space) _ _ ends low)
+    (by-test Low (startsWithCode c) _ _
+    (λ code. either Low (eqb (length c) 3 || eqb (getD c 3 0) space) _ _ ends
+    (either Low (eqb (getD c 3 0) hyphen) _ _ (omega (arith, code-most c code)) (omega arith)))
+    (λ _. omega arith))
 
 -- ---- the code 227 and its space
 

@@ -1,5 +1,4 @@
 -- Laws of the rules about server lines.
 pub mod Codes
-pub mod Flowing
 pub mod Numbers
 pub mod Reading

@@ -1,11 +1,12 @@
 // What a server line is to its reply, and the 227 reader.
 ghost use mathlib.Core.Path.{_≡_};
-ghost use Prim.Native.Nat.{_+_, _≤_};
-ghost use lib.Dec.{eqb};
+ghost use mathlib.Core.Bool.{true};
+ghost use Prim.Native.Nat.{_+_, _-_, _≤_, _<_};
 ghost use lib.ListN.{length, drop};
-ghost use Rattle.rules.specs.Octets.{choose, run, digit, notDigit};
-ghost use Rattle.rules.specs.Replies.{replyLine, numbers, passivePort, passiveReply};
-ghost use Rattle.replies.specs.Codes.{startsWithCode, startsWith227};
+ghost use Rattle.rules.specs.Octets.{run, digit, notDigit};
+ghost use Rattle.rules.specs.Replies.{startsWithCode, replyCode, replyEnd, lineOutside, lineInside, replyLine};
+ghost use Rattle.rules.specs.Replies.{openingAfter, numbers, passivePort, passiveReply};
+ghost use Rattle.replies.specs.Codes.{startsWith227};
 ghost use Rattle.replies.specs.Numbers.{numberAt};
 use octets::Number;
 use rules::PassiveReply;
@@ -40,31 +41,95 @@ fn has_code(content: &[u8]) -> bool
     is_digit(content[2])
 }
 
-// A line that ends a reply, by its first octet.
-fn ended(first: u8) -> ReplyLine
-    ensures { λ r. ⌜ r ≡ choose (eqb first 49) ReplyLine.Preliminary ReplyLine.Final ⌝ }
+// The number that the three digits of a code write.
+fn reply_code(content: &[u8]) -> u32
+    requires { ⌜ startsWithCode (now content) ≡ true ⌝ }
+    ensures { λ r. ⌜ r ≡ replyCode (now (content .entry)) ⌝ }
 {
-    if first == b'1' {
+    let hundreds = digit_value(content[0]);
+    let tens = digit_value(content[1]);
+    hundreds * 100 + tens * 10 + digit_value(content[2])
+}
+
+fn digit_value(x: u8) -> u32
+    requires { ⌜ digit x ≡ true ⌝ }
+    ensures value { λ r. ⌜ r ≡ x - 48 ⌝ }
+    ensures most { λ r. ⌜ r ≤ 9 ⌝ }
+{
+    (x - b'0') as u32
+}
+
+// A line that ends a reply, by its first octet.
+fn reply_end(content: &[u8]) -> ReplyLine
+    requires { ⌜ 0 < length (now content) ⌝ }
+    ensures { λ r. ⌜ r ≡ replyEnd (now (content .entry)) ⌝ }
+{
+    if content[0] == b'1' {
         ReplyLine::Preliminary
     } else {
         ReplyLine::Final
     }
 }
 
-// What a server line with this content is to its reply.
-pub fn reply_line(content: &[u8]) -> ReplyLine
-    ensures { λ r. ⌜ r ≡ replyLine (now (content .entry)) ⌝ }
+// A line where no reply is open.
+fn line_outside(content: &[u8]) -> ReplyLine
+    ensures { λ r. ⌜ r ≡ lineOutside (now (content .entry)) ⌝ }
 {
     if !has_code(content) {
-        return ReplyLine::GoesOn;
+        return ReplyLine::StandsAlone;
     }
     if content.len() == 3 {
-        return ended(content[0]);
+        return reply_end(content);
+    }
+    if content[3] == b' ' {
+        return reply_end(content);
+    }
+    if content[3] == b'-' {
+        return ReplyLine::Opens(reply_code(content));
+    }
+    ReplyLine::StandsAlone
+}
+
+// A line in a reply that this code opened.
+fn line_inside(opening: u32, content: &[u8]) -> ReplyLine
+    ensures { λ r. ⌜ r ≡ lineInside opening (now (content .entry)) ⌝ }
+{
+    if !has_code(content) {
+        return ReplyLine::Belongs;
+    }
+    if content.len() == 3 {
+        return ReplyLine::Belongs;
     }
     if content[3] != b' ' {
-        return ReplyLine::GoesOn;
+        return ReplyLine::Belongs;
     }
-    ended(content[0])
+    if reply_code(content) != opening {
+        return ReplyLine::Belongs;
+    }
+    reply_end(content)
+}
+
+// What a server line with this content is, in the reply that this code opened, or in none where it is 0.
+pub fn reply_line(opening: u32, content: &[u8]) -> ReplyLine
+    ensures { λ r. ⌜ r ≡ replyLine opening (now (content .entry)) ⌝ }
+{
+    if opening == 0 {
+        return line_outside(content);
+    }
+    line_inside(opening, content)
+}
+
+// The code that opened the reply in which the next line stands, or 0.
+pub fn opening_after(opening: u32, reply: ReplyLine) -> u32
+    ensures { λ r. ⌜ r ≡ openingAfter opening reply ⌝ }
+{
+    match reply {
+        ReplyLine::Opens(code) => code,
+        ReplyLine::Belongs => opening,
+        ReplyLine::Preliminary => 0,
+        ReplyLine::Final => 0,
+        ReplyLine::StandsAlone => 0,
+    }
 }
 
 // Whether a content starts with the code 227 and a space.

@@ -30,6 +30,10 @@ space = 32
 abbrev pub comma : ℕ
 comma = 44
 
+-- a hyphen
+abbrev pub hyphen : ℕ
+hyphen = 45
+
 -- a dot
 abbrev pub dot : ℕ
 dot = 46

@@ -1,37 +1,64 @@
--- "Server lines": which line ends a reply, the 227 reader, the lines that the gateway writes, and the queue.
-use mathlib.Core.Bool.{Bool, true, false, _&&_, _||_}
+-- "Server lines", as request 1 of document 02 leaves them: which lines open, belong to and end a reply; the 227 reader, the
+-- lines that the gateway writes, and the queue.
+use mathlib.Core.Bool.{Bool, true, false, not, _&&_, _||_}
 use mathlib.Core.List.{List, [], _∷_, _++_}
 use mathlib.Core.Option.{Option, none, some}
-use Prim.Native.Nat.{ℕ, zero, suc, _+_, _*_}
+use Prim.Native.Nat.{ℕ, zero, suc, _+_, _-_, _*_}
 use lib.Dec.{eqb}
 use lib.ListN.{length, getD, take, drop}
-use Rattle.rules.specs.Octets.{oct, space, comma, choose, within, equal, digit, notDigit, front, after, decimal}
+use Rattle.rules.specs.Octets.{oct, space, hyphen, comma, choose, within, equal, digit, notDigit, front, after, decimal}
 use Rattle.rules.specs.Address.{both, octetNumber}
 use Rattle.rules.specs.Lines.{unchanged, content}
 use Rattle.rules.specs.declared.OwnAnswer.{OwnAnswer}
 use Rattle.rules.specs.declared.OwnAnswer.the-variants.{ProtocolNotSupported, ParameterNotImplemented, State}
 use Rattle.rules.specs.declared.Kind.{Kind}
 use Rattle.rules.specs.declared.ReplyLine.{ReplyLine}
-use Rattle.rules.specs.declared.ReplyLine.the-variants.{GoesOn, Preliminary, Final}
+use Rattle.rules.specs.declared.ReplyLine.the-variants.{Opens, Belongs, Preliminary, Final, StandsAlone}
 use Rattle.rules.specs.declared.PassiveReply.{PassiveReply}
 
--- ---- replies
+-- ---- replies, in the words of request 1 where document 01 has others
 
--- "starts with a digit 1 to 5, two digits, and then a space or the end"
-unfoldable pub endsReply : List ℕ → Bool
-endsReply c =
-    within 49 53 (getD c 0 0) && digit (getD c 1 0) && digit (getD c 2 0)
-    && (eqb (length c) 3 || eqb (getD c 3 0) space)
+-- a code: "a digit 1 to 5, two digits"
+unfoldable pub startsWithCode : List ℕ → Bool
+startsWithCode c = within 49 53 (getD c 0 0) && digit (getD c 1 0) && digit (getD c 2 0)
 
--- "ends a reply. Any other line belongs to a reply that goes on"; "First digit 2 to 5 also removes the first owed kind"
-unfoldable pub replyLine : List ℕ → ReplyLine
-replyLine c = choose (endsReply c) (choose (eqb (getD c 0 0) 49) Preliminary Final) GoesOn
+-- the number that its three digits write
+unfoldable pub replyCode : List ℕ → ℕ
+replyCode c = (getD c 0 0 - 48) * 100 + (getD c 1 0 - 48) * 10 + (getD c 2 0 - 48)
 
--- "that reply is unfinished from this line's LF to the LF of the line that ends it"
-unfoldable pub leavesUnfinished : ReplyLine → Bool
-leavesUnfinished GoesOn = true
-leavesUnfinished Preliminary = false
-leavesUnfinished Final = false
+-- the end of a reply that a line is: "First digit 2 to 5 also removes the first owed kind"
+unfoldable pub replyEnd : List ℕ → ReplyLine
+replyEnd c = choose (eqb (getD c 0 0) 49) Preliminary Final
+
+-- a code and "then a space or the end", or "a code and a hyphen", where no reply is open: "Outside such a reply a bare
+-- code is still a whole reply; a line of none of these forms passes, ends at its LF and removes nothing"
+unfoldable pub lineOutside : List ℕ → ReplyLine
+lineOutside c =
+    choose (startsWithCode c)
+    (choose (eqb (length c) 3 || eqb (getD c 3 0) space) (replyEnd c)
+    (choose (eqb (getD c 3 0) hyphen) (Opens (replyCode c)) StandsAlone))
+    StandsAlone
+
+-- "ends only at the same code and a space; lines between, whatever their digits, belong to it"
+unfoldable pub lineInside : ℕ → List ℕ → ReplyLine
+lineInside opening c =
+    choose (startsWithCode c && eqb (replyCode c) opening && eqb (getD c 3 0) space) (replyEnd c) Belongs
+
+-- a reply with this opening code is open; 0 is none
+abbrev pub isOpen : ℕ → Bool
+isOpen opening = not (eqb opening 0)
+
+-- what a server line of content c is, by the code that opened the reply that it stands in, if one is open
+unfoldable pub replyLine : ℕ → List ℕ → ReplyLine
+replyLine opening c = choose (isOpen opening) (lineInside opening c) (lineOutside c)
+
+-- "The record keeps the opening code", from the LF of the line that opens to that of the line that ends
+abbrev pub openingAfter : ℕ → ReplyLine → ℕ
+openingAfter opening (Opens code) = code
+openingAfter opening Belongs = opening
+openingAfter opening Preliminary = 0
+openingAfter opening Final = 0
+openingAfter opening StandsAlone = 0
 
 -- ---- 227
 
@@ -107,9 +134,11 @@ removed (Kind.Auth ∷ ks) = ks
 
 -- "First digit 2 to 5 also removes the first owed kind"
 unfoldable pub owedAfter : ReplyLine → List Kind → List Kind
-owedAfter GoesOn ks = ks
+owedAfter (Opens code) ks = ks
+owedAfter Belongs ks = ks
 owedAfter Preliminary ks = ks
 owedAfter Final ks = removed ks
+owedAfter StandsAlone ks = ks
 
 -- "the gateway's own answers at the head of the queue": as written in order, and the queue without them
 unfoldable pub headAnswers : List Kind → List ℕ
@@ -134,5 +163,5 @@ authAtHead (k ∷ ks) = isAuth k
 
 -- this page's definitions, for a proof that computes with them
 unfoldable pub replies-opened : Unit {0}
-unfolding endsReply replyLine leavesUnfinished afterComma numbers passivePort passiveReply extendedPassiveLine stateLine answerLine passiveGives finalGives removed owedAfter headAnswers withoutAnswers authAtHead
+unfolding startsWithCode replyCode replyEnd lineOutside lineInside replyLine afterComma numbers passivePort passiveReply extendedPassiveLine stateLine answerLine passiveGives finalGives removed owedAfter headAnswers withoutAnswers authAtHead
 replies-opened = tt

@@ -3,19 +3,19 @@ use mathlib.Core.Bool.{Bool, true, false, _&&_, _||_, not}
 use mathlib.Core.List.{List, [], _∷_, _++_}
 use Prim.Native.Nat.{ℕ}
 use lib.Dec.{eqb}
-use lib.ListN.{length}
+use lib.ListN.{length, take}
 use Rattle.rules.specs.Octets.{lf, choose}
 use Rattle.rules.specs.Answers.{client, server}
 use Rattle.rules.specs.Setup.{setupSwitches}
 use Rattle.rules.specs.declared.Setup.{Setup}
 use Rattle.rules.specs.Lines.{judged, isWhole, startsAuth, passed, unchanged, content}
-use Rattle.rules.specs.Replies.{isAuth, replyLine, leavesUnfinished, owedAfter, headAnswers, withoutAnswers, authAtHead}
+use Rattle.rules.specs.Replies.{isAuth, isOpen, replyLine, openingAfter, owedAfter, headAnswers, withoutAnswers, authAtHead}
 use Rattle.rules.specs.Edition.{ClientLine, LineRules, document01}
 use Rattle.rules.specs.History.{Item, octet, end}
 use Rattle.rules.specs.ToServer.{finishedLine}
 use Rattle.rules.specs.declared.Kind.{Kind}
 use Rattle.rules.specs.declared.ReplyLine.{ReplyLine}
-use Rattle.rules.specs.declared.ReplyLine.the-variants.{GoesOn, Preliminary, Final}
+use Rattle.rules.specs.declared.ReplyLine.the-variants.{Opens, Belongs, Preliminary, Final, StandsAlone}
 
 -- "each side's unfinished line", "which sides ended or pass at once"; a line of 512 octets or more is flowing
 pub data Place : Type 0 where
@@ -29,11 +29,11 @@ pub record ClientState (S : Type 0) : Type 0 where
   pub lineState : S
   pub place : Place
 
--- the rest of it: the server's place, "the kinds owed" and "whether a reply is unfinished"
+-- the rest of it: the server's place, "the kinds owed" and "whether a reply is unfinished", which the opening code says: 0 where none is
 pub record ServerState : Type 0 where
   pub place : Place
   pub owed : List Kind
-  pub unfinished : Bool
+  pub opening : ℕ
 
 -- ---- a client octet: the client's state after it, and the kinds that it puts on the queue
 
@@ -71,41 +71,47 @@ pub record ServerStep : Type 0 where
   pub gives : List ℕ
 
 -- a step of the server's to this place, queue and reply
-abbrev pub serverStepTo : Place → List Kind → Bool → List ℕ → ServerStep
-serverStepTo p owed unfinished gives = record { state = record { place = p; owed = owed; unfinished = unfinished }; gives = gives }
+abbrev pub serverStepTo : Place → List Kind → ℕ → List ℕ → ServerStep
+serverStepTo p owed opening gives = record { state = record { place = p; owed = owed; opening = opening }; gives = gives }
 
 -- "no earlier line belongs to its reply": else the line passes
-unfoldable pub finalLineGives : LineRules → List Kind → Bool → List ℕ → List ℕ
-finalLineGives rules [] unfinished l = unchanged l
-finalLineGives rules (k ∷ ks) unfinished l = choose unfinished (unchanged l) (rules .finalLine k l)
+unfoldable pub finalLineGives : LineRules → List Kind → ℕ → List ℕ → List ℕ
+finalLineGives rules [] opening l = unchanged l
+finalLineGives rules (k ∷ ks) opening l = choose (isOpen opening) (unchanged l) (rules .finalLine k l)
 
 -- a line judged whole: one that does not end a final reply passes
-unfoldable pub wholeLineGives : LineRules → List Kind → Bool → List ℕ → ReplyLine → List ℕ
-wholeLineGives rules owed unfinished l GoesOn = unchanged l
-wholeLineGives rules owed unfinished l Preliminary = unchanged l
-wholeLineGives rules owed unfinished l Final = finalLineGives rules owed unfinished l
+unfoldable pub wholeLineGives : LineRules → List Kind → ℕ → List ℕ → ReplyLine → List ℕ
+wholeLineGives rules owed opening l (Opens code) = unchanged l
+wholeLineGives rules owed opening l Belongs = unchanged l
+wholeLineGives rules owed opening l Preliminary = unchanged l
+wholeLineGives rules owed opening l Final = finalLineGives rules owed opening l
+wholeLineGives rules owed opening l StandsAlone = unchanged l
+
+-- what a line is classed by: its content, or, by request 1 of document 02, "A flowing line is judged by its first four octets"
+unfoldable pub classedBy : List ℕ → List ℕ
+classedBy l = choose (isWhole l) (content l) (take 4 l)
 
 -- "the LF of a line judged whole gives what "Server lines" makes of it, and each LF changes queue and reply as there"
-unfoldable pub serverLine : LineRules → List Kind → Bool → List ℕ → ServerStep
-serverLine rules owed unfinished l =
-    let r = replyLine (content l) in
-    serverStepTo (inLine []) (owedAfter r owed) (leavesUnfinished r)
-    (choose (isWhole l) (wholeLineGives rules owed unfinished l r) (lf ∷ []))
+unfoldable pub serverLine : LineRules → List Kind → ℕ → List ℕ → ServerStep
+serverLine rules owed opening l =
+    let r = replyLine opening (classedBy l) in
+    serverStepTo (inLine []) (owedAfter r owed) (openingAfter opening r)
+    (choose (isWhole l) (wholeLineGives rules owed opening l r) (lf ∷ []))
 
 -- "up to 511 without LF give nothing, a 512th not LF gives all, later ones themselves": l ends with the octet x
 unfoldable pub lineOctetGives : List ℕ → ℕ → List ℕ
 lineOctetGives l x = choose (isWhole l) [] (choose (eqb (length l) judged) (passed l) (x ∷ []))
 
 -- a server octet that is no LF joins its line
-unfoldable pub lineOctet : List Kind → Bool → List ℕ → ℕ → ServerStep
-lineOctet owed unfinished l x = serverStepTo (inLine l) owed unfinished (lineOctetGives l x)
+unfoldable pub lineOctet : List Kind → ℕ → List ℕ → ℕ → ServerStep
+lineOctet owed opening l x = serverStepTo (inLine l) owed opening (lineOctetGives l x)
 
 -- "A server octet gives itself once its side passes at once"
-unfoldable pub serverOctet : LineRules → Place → List Kind → Bool → ℕ → ServerStep
-serverOctet rules (inLine l) owed unfinished x =
-    choose (eqb x lf) (serverLine rules owed unfinished l) (lineOctet owed unfinished (l ++ (x ∷ [])) x)
-serverOctet rules passing owed unfinished x = serverStepTo passing owed unfinished (x ∷ [])
-serverOctet rules ended owed unfinished x = serverStepTo ended owed unfinished []
+unfoldable pub serverOctet : LineRules → Place → List Kind → ℕ → ℕ → ServerStep
+serverOctet rules (inLine l) owed opening x =
+    choose (eqb x lf) (serverLine rules owed opening l) (lineOctet owed opening (l ++ (x ∷ [])) x)
+serverOctet rules passing owed opening x = serverStepTo passing owed opening (x ∷ [])
+serverOctet rules ended owed opening x = serverStepTo ended owed opening []
 
 -- ---- "After each octet follow the own answers and the AUTH step"
 
@@ -122,10 +128,10 @@ flowsOrEnded passing = false
 flowsOrEnded ended = true
 
 -- "the gateway's own answers at the head of the queue are written in order, unless .."
-unfoldable pub ownAnswers : Place → List Kind → Bool → List ℕ → ServerStep
-ownAnswers p owed unfinished gives =
-    choose (unfinished || flowsOrEnded p) (serverStepTo p owed unfinished gives)
-    (serverStepTo p (withoutAnswers owed) unfinished (gives ++ headAnswers owed))
+unfoldable pub ownAnswers : Place → List Kind → ℕ → List ℕ → ServerStep
+ownAnswers p owed opening gives =
+    choose (isOpen opening || flowsOrEnded p) (serverStepTo p owed opening gives)
+    (serverStepTo p (withoutAnswers owed) opening (gives ++ headAnswers owed))
 
 -- "all later ones pass at once", unless the server has ended
 abbrev pub passesFromNow : Place → Place
@@ -138,12 +144,12 @@ unfoldable pub authStep : ServerStep → ServerStep
 authStep t =
     let s = t .state in
     choose (authAtHead (s .owed))
-    (serverStepTo (passesFromNow (s .place)) (s .owed) (s .unfinished) (t .gives ++ passed (held (s .place))))
+    (serverStepTo (passesFromNow (s .place)) (s .owed) (s .opening) (t .gives ++ passed (held (s .place))))
     t
 
 -- after an octet that gave what `t` says and put `new` on the queue
 unfoldable pub afterOctet : ServerStep → List Kind → ServerStep
-afterOctet t new = let s = t .state in authStep (ownAnswers (s .place) (s .owed ++ new) (s .unfinished) (t .gives))
+afterOctet t new = let s = t .state in authStep (ownAnswers (s .place) (s .owed ++ new) (s .opening) (t .gives))
 
 -- ---- the whole history
 
@@ -155,15 +161,15 @@ readToClient rules c s (octet client x ∷ is) =
     let t = afterOctet (record { state = s; gives = [] }) (j .owes) in
     t .gives ++ readToClient rules (j .state) (t .state) is
 readToClient rules c s (octet server x ∷ is) =
-    let t = afterOctet (serverOctet rules (s .place) (s .owed) (s .unfinished) x) [] in
+    let t = afterOctet (serverOctet rules (s .place) (s .owed) (s .opening) x) [] in
     t .gives ++ readToClient rules c (t .state) is
 readToClient rules c s (end client ∷ is) = readToClient rules (record { lineState = c .lineState; place = ended }) s is
 readToClient rules c s (end server ∷ is) =
-    passed (held (s .place)) ++ readToClient rules c (record { place = ended; owed = s .owed; unfinished = s .unfinished }) is
+    passed (held (s .place)) ++ readToClient rules c (record { place = ended; owed = s .owed; opening = s .opening }) is
 
 -- "the kinds owed (at first plain, the greeting)"
 abbrev pub freshServer : ServerState
-freshServer = record { place = inLine []; owed = Kind.Plain ∷ []; unfinished = false }
+freshServer = record { place = inLine []; owed = Kind.Plain ∷ []; opening = 0 }
 
 -- nothing of a line yet, and the first state of the line rules
 abbrev pub freshClient : {S : Type 0} → S → ClientState S
@@ -175,5 +181,5 @@ toClient su is = readToClient (document01 su) (freshClient (setupSwitches (su .f
 
 -- this page's definitions, for a proof that computes with them
 unfoldable pub to-client-opened : Unit {0}
-unfolding finishes joins clientOctet finalLineGives wholeLineGives serverLine lineOctetGives lineOctet serverOctet held flowsOrEnded ownAnswers authStep afterOctet readToClient toClient
+unfolding finishes joins clientOctet finalLineGives wholeLineGives classedBy serverLine lineOctetGives lineOctet serverOctet held flowsOrEnded ownAnswers authStep afterOctet readToClient toClient
 to-client-opened = tt

@@ -116,12 +116,16 @@ pub enum Command {
 
 // What a server line is to the reply that it stands in.
 pub enum ReplyLine {
-    // The reply goes on.
-    GoesOn,
-    // The reply ends; its first digit is 1.
+    // A reply opens, with this code.
+    Opens(u32),
+    // It belongs to the open reply, which goes on.
+    Belongs,
+    // A reply ends; its first digit is 1.
     Preliminary,
-    // The reply ends; its first digit is 2 to 5.
+    // A reply ends; its first digit is 2 to 5.
     Final,
+    // It stands in no reply and is none.
+    StandsAlone,
 }
 
 // The port of a 227 line.

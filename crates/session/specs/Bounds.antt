@@ -3,7 +3,7 @@ use mathlib.Core.Path.{_≡_}
 use mathlib.Core.Bool.{true, false}
 use mathlib.Core.List.{List}
 use mathlib.Core.Logic.{_≢_}
-use Prim.Native.Nat.{ℕ, _-_, _≤_}
+use Prim.Native.Nat.{ℕ, _-_, _^_, _≤_, _<_}
 use lib.Dec.{leb}
 use lib.ListN.{length}
 use Rattle.rules.specs.Octets.{every}
@@ -18,13 +18,14 @@ use Rattle.records.specs.Sound.{sound}
 use Rattle.places.specs.Places.{isPassing}
 use Rattle.session.specs.Calls.{stateOf}
 
--- what the types of a record's arrays say of it
+-- what the types of a record's arrays and of its opening code say of it
 pub record Shaped (s : Session) : Type 0 where
   pub mapped : length (s .fixed .mapped) ≡ ipv4Width
   pub octets : every (λ n. leb n 255) (s .fixed .mapped) ≡ true
   pub command : length (s .command) ≡ mostHeld
   pub reply : length (s .reply) ≡ mostHeld
   pub kinds : length (s .kinds) ≡ mostOwed
+  pub opening : s .control .opening < 2 ^ 32
 
 -- "One octet writes at most 512 octets to the server and at most 1,280 to the client"
 pub record WritesAtMost (t : Step) : Type 0 where

@@ -49,7 +49,7 @@ startDirection = at Place.Holding 0
 -- a control at the start: the switches, and how many replies are owed
 abbrev pub startControl : Switches → ℕ → Control
 startControl sw owed =
-    record { switches = sw; client = startDirection; server = startDirection; owed = owed; unfinished = false }
+    record { switches = sw; client = startDirection; server = startDirection; owed = owed; opening = 0 }
 
 -- a record at the start: what is given, and arrays and counts of zeros
 abbrev pub startSession : Bool → Fixed → Control → Session

@@ -129,7 +129,7 @@ fn start(live: bool, fixed: Fixed, switches: Switches, owed: usize) -> Session
         client: direction,
         server: direction,
         owed,
-        unfinished: false,
+        opening: 0,
     };
     let none = Counts {
         taken: 0,

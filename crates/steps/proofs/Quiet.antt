@@ -7,7 +7,7 @@ use native.Mathlib.Omega.{arith}
 use lib.ListN.{length, take, drop, take-append-drop}
 use lib.Seq.{drop-drop}
 use Rattle.rules.specs.Octets.{choose}
-use Rattle.rules.specs.Replies.{headAnswers, authAtHead}
+use Rattle.rules.specs.Replies.{isOpen, headAnswers, authAtHead}
 use Rattle.rules.specs.declared.Kind.{Kind}
 use Rattle.octets.proofs.Choices.{by-test, choose-true, choose-false}
 use Rattle.places.specs.declared.Place.{Place}
@@ -104,7 +104,7 @@ module _ (s : State) (settled : Settled s) where
       (λ i. drop (none-leaves i) (take (c .owed) (s .kinds)) ++ drop (owed i) (s .kinds))
       ∙ take-append-drop (c .owed) (s .kinds) in
       λ i. record {
-        control = record { switches = c .switches; client = c .client; server = server i; owed = owed i; unfinished = c .unfinished };
+        control = record { switches = c .switches; client = c .client; server = server i; owed = owed i; opening = c .opening };
         command = s .command;
         reply = s .reply;
         kinds = kinds i;
@@ -153,7 +153,7 @@ module _ (s : State) (n : ℕ) (fits : s .control .owed ≤ length (s .kinds))
       let go : Direction = directionFromNow sv (sv .place) in
       record {
         answers = λ e. rw queue-then
-            (by-test (λ (d : Direction). (s .control .unfinished || isFlowingOrEnded (d .place)) ≡ false
+            (by-test (λ (d : Direction). (isOpen (s .control .opening) || isFlowingOrEnded (d .place)) ≡ false
             → answersAtHead left ≡ 0)
             (isAuthNext s n) go sv (λ a _. auth-first left a) (λ _ e. answers-left e) e);
         auth = λ e.

@@ -108,7 +108,9 @@ fn wide(x: u8) -> u64 {
 fn put_line(out: &mut [u8], reader: u8, text: &[u8]) -> usize {
     match reader {
         b'C' => put_command(out, text),
-        b'R' => put_reply_line(out, text),
+        b'R' => put_reply_line(out, 0, text),
+        b'I' => put_reply_line(out, 214, text),
+        b'J' => put_reply_line(out, 150, text),
         b'P' => put_passive_reply(out, text),
         _ => output::put(out, 0, b"no such reader\n"),
     }
@@ -134,12 +136,22 @@ fn put_command(out: &mut [u8], line: &[u8]) -> usize {
     }
 }
 
-fn put_reply_line(out: &mut [u8], content: &[u8]) -> usize {
-    match replies::reply_line(content) {
-        ReplyLine::GoesOn => output::put(out, 0, b"goes on\n"),
+// A server line, in the reply that this code opened, or in none where it is 0.
+fn put_reply_line(out: &mut [u8], opening: u32, content: &[u8]) -> usize {
+    match replies::reply_line(opening, content) {
+        ReplyLine::Opens(code) => put_opens(out, code),
+        ReplyLine::Belongs => output::put(out, 0, b"belongs\n"),
         ReplyLine::Preliminary => output::put(out, 0, b"preliminary\n"),
         ReplyLine::Final => output::put(out, 0, b"final\n"),
+        ReplyLine::StandsAlone => output::put(out, 0, b"stands alone\n"),
     }
+}
+
+// A line that opens a reply, with the number that its code writes.
+fn put_opens(out: &mut [u8], code: u32) -> usize {
+    let at = output::put(out, 0, b"opens ");
+    let next = output::put_decimal(out, at, (code % 1000) as u16);
+    output::put(out, next, b"\n")
 }
 
 fn put_passive_reply(out: &mut [u8], content: &[u8]) -> usize {

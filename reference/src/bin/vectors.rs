@@ -4,7 +4,9 @@
 //!
 //! - `6 TEXT`: the sixteen octets of an IPv6 text in hexadecimal, or `-`
 //! - `C LINE`: what becomes of a client line, everything on
-//! - `R CONTENT`: whether a server line ends its reply
+//! - `R CONTENT`: what a server line is where no reply is unfinished
+//! - `I CONTENT`: what it is inside a reply opened with `214-`
+//! - `J CONTENT`: what it is inside a reply opened with `150-`
 //! - `P CONTENT`: the 229 that a 227 becomes
 //! - `A`: sums of the PORT and 229 lines of all ports
 
@@ -12,7 +14,7 @@ use reference::address;
 use reference::commands::{judge, Addresses, Switches};
 use reference::output::Given;
 use reference::queue::Owed;
-use reference::replies::{extended_passive, Code};
+use reference::replies::{extended_passive, Code, Role};
 use std::io::{self, Read, Write};
 
 const ADDRESSES: Addresses = Addresses {
@@ -35,7 +37,9 @@ fn main() -> io::Result<()> {
             [b'A'] => sums(),
             [b'6', b' ', text @ ..] => address(text),
             [b'C', b' ', line @ ..] => command(line),
-            [b'R', b' ', content @ ..] => reply_line(content).to_vec(),
+            [b'R', b' ', content @ ..] => reply_line(content, None),
+            [b'I', b' ', content @ ..] => reply_line(content, opened_with(b"214-")),
+            [b'J', b' ', content @ ..] => reply_line(content, opened_with(b"150-")),
             [b'P', b' ', content @ ..] => passive_reply(content),
             other => panic!("no such vector: {}", other.escape_ascii()),
         };
@@ -63,11 +67,17 @@ fn command(text: &[u8]) -> Vec<u8> {
     }
 }
 
-fn reply_line(content: &[u8]) -> &'static [u8] {
-    match Code::read(content) {
-        None => b"goes on\n",
-        Some(code) if code.is_final() => b"final\n",
-        Some(_) => b"preliminary\n",
+fn opened_with(content: &[u8]) -> Option<Code> {
+    Role::of(content, None).unfinished()
+}
+
+fn reply_line(content: &[u8], unfinished: Option<Code>) -> Vec<u8> {
+    match Role::of(content, unfinished) {
+        Role::Opens(code) => [b"opens ", &code.digits()[..], b"\n"].concat(),
+        Role::Belongs(_) => b"belongs\n".to_vec(),
+        Role::Ends(code) if code.is_final() => b"final\n".to_vec(),
+        Role::Ends(_) => b"preliminary\n".to_vec(),
+        Role::StandsAlone => b"stands alone\n".to_vec(),
     }
 }
 

@@ -63,7 +63,7 @@ fn number_1_at_sixteen_owed() {
 #[test]
 fn number_1_at_sixteen_own_answers() {
     let mut gateway = greeted(ALL_ON);
-    check(&mut gateway, &[(Server("hello\r\n"), "", "hello\r\n")]);
+    check(&mut gateway, &[(Server("200-a\r\n"), "", "200-a\r\n")]);
     let lines = "EPSV 1\r\n".repeat(17);
     check_stop(&arrive(&mut gateway, CLIENT, &lines), 1, 128, "", "");
     let all = format!("200 ok\r\n{}", NOT_SUPPORTED.repeat(16));
@@ -274,7 +274,7 @@ fn most_octets_to_the_server() {
 fn most_octets_to_the_client() {
     let mut gateway = greeted(ALL_ON);
     let line = format!("200 {}\r\n", "x".repeat(506));
-    check(&mut gateway, &[(Server("hello\r\n"), "", "hello\r\n")]);
+    check(&mut gateway, &[(Server("200-a\r\n"), "", "200-a\r\n")]);
     check(&mut gateway, &[(Client(&"ALGS\r\n".repeat(16)), "", "")]);
     check(&mut gateway, &[(Server(&line[..511]), "", "")]);
     let outcome = gateway.arrive(SERVER, b"\n", PLENTY, 1279);

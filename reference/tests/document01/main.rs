@@ -1,4 +1,4 @@
-//! Document 01's rules, run.
+//! Document 01's rules, run, with request 1 of document 02.
 
 mod addresses;
 mod answers;
@@ -8,6 +8,7 @@ mod cuts;
 mod errors;
 mod exchanges;
 mod files;
+mod multi_line;
 mod offsets;
 mod ports;
 mod queue;

@@ -179,7 +179,7 @@ fn a_refused_auth_stays_transparent() {
 #[test]
 fn the_auth_step_does_not_wait() {
     let long = format!("200 {}", "x".repeat(600));
-    for before in ["220-x\r\n", "hello\r\n", &long] {
+    for before in ["220-x\r\n", "220-x\r\nhello\r\n", &long] {
         check_greeted(
             ALL_ON,
             &[

@@ -69,7 +69,7 @@ const CLIENT_LINES: [&str; 24] = [
     " \r\n",
 ];
 
-const SERVER_LINES: [&str; 20] = [
+const SERVER_LINES: [&str; 24] = [
     "220 hi\r\n",
     "220 hi\r\n",
     "200 ok\r\n",
@@ -80,6 +80,10 @@ const SERVER_LINES: [&str; 20] = [
     "227 x (1,2,3,4,0,0)\r\n",
     "227-x\r\n",
     "220-x\r\n",
+    "214-x\r\n",
+    "214 x\r\n",
+    "214\r\n",
+    "150-x\r\n",
     "150 x\r\n",
     "500\r\n",
     "200\r\r\n",
@@ -132,7 +136,7 @@ fn long_line(random: &mut Random, direction: u8) -> Vec<u8> {
     let start = if direction == CLIENT {
         random.pick(&["EPSV ", "ALGS ", "AUTH ", "auth ", "AUTHx", "NOOP "])
     } else {
-        random.pick(&["200 ", "200-", "227 1,2,3,4,5,6 ", "150 ", "hello"])
+        random.pick(&["200 ", "200-", "214 ", "227 1,2,3,4,5,6 ", "150 ", "hello"])
     };
     let filling = random.pick(&[" ", "x"]);
     let length = 490 + random.below(30);

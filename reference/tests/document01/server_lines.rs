@@ -1,4 +1,4 @@
-//! "Server lines": which end a reply, what they remove, and which 227 becomes a 229.
+//! "Server lines": which end or open a reply, what they remove, and which 227 becomes a 229.
 
 use crate::talk::{Step::*, *};
 
@@ -26,12 +26,21 @@ fn check_unread(lines: &[&str]) {
     }
 }
 
-/// Whether a line lets an own answer follow it: only one that ends a reply does.
-fn ends_a_reply(line: &str) -> bool {
+/// Whether a line keeps own answers back: only one that leaves a reply unfinished does.
+fn leaves_unfinished(line: &str) -> bool {
     let mut gateway = greeted(ALL_ON);
     arrive(&mut gateway, SERVER, line);
     let outcome = arrive(&mut gateway, CLIENT, "EPSV 1\r\n");
-    text(&outcome.to_client) == NOT_SUPPORTED
+    text(&outcome.to_client) != NOT_SUPPORTED
+}
+
+/// Whether a line removes the first owed kind, so that the own answer behind it follows.
+fn removes(line: &str) -> bool {
+    let mut gateway = greeted(ALL_ON);
+    let lines = "NOOP\r\nEPSV 1\r\n";
+    check(&mut gateway, &[(Client(lines), "NOOP\r\n", "")]);
+    let outcome = arrive(&mut gateway, SERVER, line);
+    text(&outcome.to_client) != line
 }
 
 #[test]
@@ -145,54 +154,113 @@ fn lines_that_end_a_reply() {
         "220\r\n",
         "220\n",
         "220 \n",
-        "100 x\r\n",
+        "220 -\r\n",
+        "220 \r\r\n",
         "599 \r\n",
         &long,
     ];
     for line in lines {
-        assert!(ends_a_reply(line), "{line}");
+        assert!(!leaves_unfinished(line), "{line}");
+        assert!(removes(line), "{line}");
+    }
+    for line in ["100 x\r\n", "150\r\n", "199 \n"] {
+        assert!(!leaves_unfinished(line), "{line}");
+        assert!(!removes(line), "{line}");
     }
 }
 
-/// "Any other line belongs to a reply that goes on", whatever it looks like.
+/// "A reply opened with a code and a hyphen."
 #[test]
-fn lines_that_leave_a_reply_unfinished() {
+fn lines_that_open_a_reply() {
     let long = format!("200-{}\r\n", "x".repeat(600));
+    let lines = [
+        "220-x\r\n",
+        "220-\r\n",
+        "220-\n",
+        "220--\r\n",
+        "220- x\r\n",
+        "220-220 x\r\n",
+        "150-x\r\n",
+        "100-\r\r\n",
+        "599-x\r\n",
+        &long,
+    ];
+    for line in lines {
+        assert!(leaves_unfinished(line), "{line}");
+        assert!(!removes(line), "{line}");
+    }
+}
+
+/// "A line of none of these forms passes, ends at its LF and removes nothing."
+#[test]
+fn lines_that_stand_alone() {
+    let long = |start| format!("{start}{}\r\n", "x".repeat(600));
     let lines = [
         "\r\n",
         "\n",
+        "\r\r\n",
         "hello\r\n",
         "600 x\r\n",
         "099 y\r\n",
         "000\r\n",
+        "620-x\r\n",
+        "099-y\r\n",
         "220x\r\n",
-        "220-x\r\n",
         "22\r\n",
         "22 x\r\n",
+        "22-x\r\n",
+        "2-0-x\r\n",
         "2200\r\n",
+        "2200 x\r\n",
+        "2200-x\r\n",
         "2x0 x\r\n",
-        "22x x\r\n",
+        "22x-x\r\n",
         " 220 x\r\n",
+        " 220-x\r\n",
+        "-220-x\r\n",
         "220\r\r\n",
         "220\t\r\n",
-        &long,
+        "220\u{ad}x\r\n",
+        "220\u{a0}x\r\n",
+        "\u{b2}20-x\r\n",
+        &long("hello"),
+        &long("620 "),
+        &long("620-"),
+        &long("220x"),
+        &long("220"),
+        &long(" 220-"),
     ];
     for line in lines {
-        assert!(!ends_a_reply(line), "{line}");
+        assert!(!leaves_unfinished(line), "{line}");
+        assert!(!removes(line), "{line}");
     }
 }
 
-/// Each of them also keeps a following 227 from being rewritten, and removes nothing.
+/// A code's "digit 1 to 5, two digits" are all that make it one.
 #[test]
-fn an_earlier_line_spoils_a_227() {
-    for line in ["hello\r\n", "\r\n", "600 x\r\n", "227-x\r\n", "150-x\r\n"] {
+fn every_code_opens_and_ends() {
+    for number in 0..1000 {
+        let line = |behind| format!("{number:03}{behind}\r\n");
+        let is_code = (100..600).contains(&number);
+        assert_eq!(leaves_unfinished(&line("-x")), is_code, "{number}");
+        assert!(!leaves_unfinished(&line(" x")), "{number}");
+        assert!(!leaves_unfinished(&line("")), "{number}");
+        let is_final = (200..600).contains(&number);
+        assert_eq!(removes(&line(" x")), is_final, "{number}");
+        assert_eq!(removes(&line("")), is_final, "{number}");
+    }
+}
+
+/// No line of them belongs to the reply of a 227 that follows.
+#[test]
+fn a_line_that_stands_alone_spoils_no_227() {
+    let flowing = format!("hello{}\r\n", "x".repeat(600));
+    for line in ["hello\r\n", "\r\n", "600 x\r\n", "620-x\r\n", &flowing] {
         check_greeted(
             ALL_ON,
             &[
                 (Client("EPSV\r\n"), "PASV\r\n", ""),
                 (Server(line), "", line),
-                (Server(PASSIVE), "", PASSIVE),
-                (Client("EPSV\r\n"), "PASV\r\n", ""),
                 (Server(PASSIVE), "", EXTENDED_PASSIVE),
             ],
         );

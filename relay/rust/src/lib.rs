@@ -43,7 +43,7 @@ use std::fmt;
 use std::net::{Ipv4Addr, Ipv6Addr};
 
 /// The octets of a record.
-pub const RECORD: usize = 1093;
+pub const RECORD: usize = 1096;
 
 /// The octets of a setup: the two addresses and the flags.
 pub const SETUP: usize = 21;

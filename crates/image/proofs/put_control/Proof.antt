@@ -1,4 +1,4 @@
--- `image::put_control`: the five octets are put.
+-- `image::put_control`: the four octets are put.
 use mathlib.Core.Path.{_≡_}
 use mathlib.Core.List.{[], _∷_}
 use Rattle.output.proofs.Placing.{written}
@@ -11,15 +11,14 @@ returns : tie.Need-returns
 returns c =
     let p = c .before .before .before .before .before in
     let b = p .before .before in
-    let a = b .before .before .before .before .before .before .before .args in
-    let marks : b .before .before .bit .result ∷ b .before .bit2 .result ∷ b .bit3 .result ∷ p .before .place-number .result ∷ p .place-number2 .result ∷ [] ≡ marksIn (a .control) = cc in
+    let a = b .before .before .before .before .before .before .args in
+    let marks : b .before .bit .result ∷ b .bit2 .result ∷ p .before .place-number .result ∷ p .place-number2 .result ∷ [] ≡ marksIn (a .control) = cc in
     λ room. written (a .out .now) (a .at) marks (c .before .before .put .ensures)
 
 pub put-control-spec : {M : Type 1} → statement M
 put-control-spec =
     tie.close
     (tie.spec
-    (λ c κs. search needs)
     (λ c κs. search needs)
     (λ c κs. search needs)
     (λ c κs. search needs)

@@ -17,7 +17,7 @@ use Rattle.promises.proofs.Promises.{call-promised}
 use Rattle.promises.proofs.promised_arrival.Statement.{statement}
 use Rattle.promises.proofs.promised_arrival.Tie as tie
 
--- the record's arrays have the lengths and the octets of their types
+-- the record's arrays have the lengths and the octets of their types, and its opening code fits
 shaped : (c : tie.After-slice-known4) → Shaped (c .before .before .before .before .before .before .before .before .before .before .args .session)
 unfolding judged
 shaped c =
@@ -31,6 +31,7 @@ shaped c =
       command = length-unmapped ℕ (s .command) mostHeld (lines .0 .1 .0 .1);
       reply = length-unmapped ℕ (s .reply) mostHeld (lines .1 .0 .1 .0 .1);
       kinds = length-unmapped ℕ (s .kinds) mostOwed (lines .1 .1 .0 .1 .0 .1);
+      opening = start .good .0 .1 .1 .1 .1 .0 .1 .1 .1 .1 .1 .1 .0 .1;
     }
 
 returns : tie.Need-returns

@@ -17,17 +17,17 @@ returns c = sym (choose-true true _ (eq-eqb (c .before .before .args .removes) 0
 returns-2 : tie.Need-returns-2
 returns-2 c =
     let a = c .before .before .before .before .before .args in
-    keeps-not (a .kinds .now) (a .unfinished) (a .removes) (a .owed) (c .before .before .before .if1 .left)
+    keeps-not (a .kinds .now) (a .inside) (a .removes) (a .owed) (c .before .before .before .if1 .left)
     (not-true _ (c .before .before .if2 .taken)) (sym (c .before .is-plain-first .ensures) ∙ not-true _ (c .if3 .taken))
 
 returns-3 : tie.Need-returns-3
 returns-3 c =
     let a = c .before .before .before .before .args in
     let first = isPlainFirst (a .kinds .now) in
-    let none = ⊎-elim {C = (a .unfinished || first) ≡ true}
-    (λ w. either-true (a .unfinished) (sym (w .1 .ensures) ∙ not-false _ (w .2 .left)))
-    (λ w. ap (λ (u : Bool). u || first) (not-false (a .unfinished) (w .left))) (c .before .if2 .came) in
-    c .is-still .ensures ∙ keeps-behind (a .kinds .now) (a .unfinished) (a .removes) (a .owed) (c .before .before .if1 .left) none
+    let none = ⊎-elim {C = (a .inside || first) ≡ true}
+    (λ w. either-true (a .inside) (sym (w .1 .ensures) ∙ not-false _ (w .2 .left)))
+    (λ w. ap (λ (u : Bool). u || first) (not-false (a .inside) (w .left))) (c .before .if2 .came) in
+    c .is-still .ensures ∙ keeps-behind (a .kinds .now) (a .inside) (a .removes) (a .owed) (c .before .before .if1 .left) none
 
 pub keeps-still-spec : {M : Type 1} → statement M
 keeps-still-spec = tie.close (tie.spec returns (λ c κs. search needs) returns-2 (λ c κs. search needs) returns-3)

@@ -46,14 +46,14 @@ module _ (c : tie.After-hold-run) where
   abbrev after : List ℕ
   after = putMid lentReply mostHeld lent part
 
-  first : AnsweredPlain octets i held owed (c .before .before .before .before .before .args .unfinished) lent
+  first : AnsweredPlain octets i held owed (c .before .before .before .before .before .args .opening) lent
       (c .before .before .before .before .before .args .to-client .now) (c .before .before .before .before .before .args .at)
       (record {
         more = false;
         taken = j;
         held = held + (j - i);
         owed = owed;
-        unfinished = c .before .before .before .before .before .args .unfinished;
+        opening = c .before .before .before .before .before .args .opening;
         at = c .before .before .before .before .before .args .at;
       })
       after (c .before .before .before .before .before .args .to-client .now)
@@ -90,14 +90,14 @@ text-requires-2 c κs = read (c .before .before .before .before .before .before 
 part-shift-end : tie.Need-part-shift-end
 part-shift-end c = omega (arith, all (c .before .before .before .before .before .before .before .before .before .before .before .before .before .before .before .before .before .before .before .before .before .before .before .before))
 
-add-t41 : tie.Need-add-t41
-add-t41 c =
+add-t42 : tie.Need-add-t42
+add-t42 c =
     let size = c .before .before .before .before .before .before .before .before .before .before .before .before .before .before .before .before .before .before .before .before .before .before .before .before .before .before .before .before .before .before .before .before .before .good .1 .1 .1 .0 in
     let more = c .before .before .before .before .before .before .before .before .before .before .before .before .before .before .before .before .before .before .before .before .may-end .ensures (c .before .before .before .before .before .before .before .before .before .before .before .before .before .before .before .before .before .before .before .if1 .taken) .0 in
     record { fits = omega (arith, more, size) }
 
-sub-t36 : tie.Need-sub-t36
-sub-t36 c = few (c .before .before .before .before .before .before .before .before .before .before .before .before .before .before .before .before)
+sub-t37 : tie.Need-sub-t37
+sub-t37 c = few (c .before .before .before .before .before .before .before .before .before .before .before .before .before .before .before .before)
 
 same-length : tie.Need-same-length
 same-length c =
@@ -119,11 +119,11 @@ returns c =
     let moved = c .before .before .before .shift .ensures
     ∙ shifted-in (kindsLent (after run)) _ _ (omega (arith, kinds-size (after run) (all run), first run .owed)) in
     let over = run .hold-run .ensures .0 .0 in (
-      answered-then (octets run) (i run) (held run) (owed run) (a .unfinished) (lent run) (a .to-client .now) (a .at) _ _ (after run) (a .to-client .now) _ _ (first run)
-          (reply-ended (octets run) (j run) (held run + (j run - i run)) (owed run) (a .unfinished) (after run) _ (a .to-client .now) _ (a .at) _ _ _ (all run)
+      answered-then (octets run) (i run) (held run) (owed run) (a .opening) (lent run) (a .to-client .now) (a .at) _ _ (after run) (a .to-client .now) _ _ (first run)
+          (reply-ended (octets run) (j run) (held run + (j run - i run)) (owed run) (a .opening) (after run) _ (a .to-client .now) _ (a .at) _ _ _ (all run)
           (first run .held) (first run .owed) (first run .still) (ends .0) (ends .1) _ _ (c .before .before .before .before .before .before .before .before .before .before .before .before .before .before .before .before .before .before .before .before .before .before .before .text .ensures) (c .before .before .before .before .before .before .before .before .before .text2 .ensures)
           (omega (arith, ends .2, c .before .before .before .before .before .before .before .before .before .before .before .before .before .before .before .before .before .before .before .before .before .before .passed-length .ensures))
-          (reply .result) (reply .ensures ∙ ap replyLine (c .before .before .before .before .before .before .before .before .before .before .before .before .before .before .before .before .before .before .before .content .ensures)) (c .before .before .before .before .before .before .before .before .before .before .before .before .before .before .before .before .before .removed .ensures) (c .goes-on .ensures) keeps
+          (reply .result) (reply .ensures ∙ ap (replyLine (a .opening)) (c .before .before .before .before .before .before .before .before .before .before .before .before .before .before .before .before .before .before .before .content .ensures)) (c .before .before .before .before .before .before .before .before .before .before .before .before .before .before .before .before .before .removed .ensures) (c .opening-after .ensures) keeps
           (put .ensures .0) (put .ensures .1) moved),
       λ _. omega arith,
     )
@@ -175,8 +175,8 @@ server-line-spec =
     (λ c. search needs)
     part-shift-end
     (λ c κs. search needs)
-    add-t41
-    sub-t36
+    add-t42
+    sub-t37
     (λ c κs. search needs)
     same-length
     (λ c. search needs)

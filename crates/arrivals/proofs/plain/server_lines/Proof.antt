@@ -11,20 +11,20 @@ use Rattle.arrivals.proofs.plain.server_lines.Statement.{statement}
 use Rattle.arrivals.proofs.plain.server_lines.Tie as tie
 
 abbrev Inv-loop : tie.InvT-loop
-Inv-loop start before reply octets from lent₀ to-client₀ first held₀ owed₀ unfinished₀ at₀ i₀ lent to-client held owed unfinished at i =
-    (AnsweredPlain octets from start before reply lent₀ to-client₀ first
-    (record { more = false; taken = i; held = held; owed = owed; unfinished = unfinished; at = at }) lent to-client)
+Inv-loop start before code octets from lent₀ to-client₀ first held₀ owed₀ opening₀ at₀ i₀ lent to-client held owed opening at i =
+    (AnsweredPlain octets from start before code lent₀ to-client₀ first
+    (record { more = false; taken = i; held = held; owed = owed; opening = opening; at = at }) lent to-client)
     × (length lent ≡ length lent₀) × (length to-client ≡ length to-client₀)
 
 abbrev μ-loop : tie.MeasureT-loop
-μ-loop start before reply octets from lent₀ to-client₀ first held₀ owed₀ unfinished₀ at₀ i₀ lent to-client held owed unfinished at i =
+μ-loop start before code octets from lent₀ to-client₀ first held₀ owed₀ opening₀ at₀ i₀ lent to-client held owed opening at i =
     length octets - i
 
 loop-holds : tie.Need-loop-holds Inv-loop μ-loop
 loop-holds c =
     let a = c .before .before .before .args in
     let pre = c .before .before .before .pre in (
-      answered-none (a .octets .now) (a .from) (a .start) (a .before) (a .reply) (a .lent .now) (a .to-client .now) (a .first) (pre .1 .0) (pre .0 .0) (pre .0 .1) (pre .1 .2) (pre .0 .2),
+      answered-none (a .octets .now) (a .from) (a .start) (a .before) (a .code) (a .lent .now) (a .to-client .now) (a .first) (pre .1 .0) (pre .0 .0) (pre .0 .1) (pre .1 .2) (pre .0 .2),
       refl,
       refl,
     )
@@ -46,7 +46,7 @@ same-length-2 c = c .before .before .before .before .before .before .server-line
 returns : tie.Need-returns Inv-loop μ-loop
 returns c =
     let a = c .before .before .before .before .before .before .before .before .before .before .before .before .before .before .args in
-    answered-then (a .octets .now) (a .from) (a .start) (a .before) (a .reply) (a .lent .now) (a .to-client .now) (a .first) _ _ _ _ _ _
+    answered-then (a .octets .now) (a .from) (a .start) (a .before) (a .code) (a .lent .now) (a .to-client .now) (a .first) _ _ _ _ _ _
     (c .before .before .before .before .before .before .before .before .before .before .loop .inv .0) (c .before .before .before .before .before .before .server-line .ensures .0)
 
 loop-less : tie.Need-loop-less Inv-loop μ-loop
@@ -60,8 +60,8 @@ loop-again c =
     let a = c .before .before .before .before .before .before .before .before .before .before .before .before .before .before .args in
     let line = c .before .before .before .before .before .before .server-line in
     let inv = c .before .before .before .before .before .before .before .before .before .before .loop .inv in
-    let ran = answered-then (a .octets .now) (a .from) (a .start) (a .before) (a .reply) (a .lent .now) (a .to-client .now) (a .first) _ _ _ _ _ _ (inv .0) (line .ensures .0) in (
-      answered-more (a .octets .now) (a .from) (a .start) (a .before) (a .reply) (a .lent .now) (a .to-client .now) (a .first) false _ _ _ ran,
+    let ran = answered-then (a .octets .now) (a .from) (a .start) (a .before) (a .code) (a .lent .now) (a .to-client .now) (a .first) _ _ _ _ _ _ (inv .0) (line .ensures .0) in (
+      answered-more (a .octets .now) (a .from) (a .start) (a .before) (a .code) (a .lent .now) (a .to-client .now) (a .first) false _ _ _ ran,
       line .kept .1 .1 .1 .1 .1 .0 ∙ inv .1,
       line .kept .1 .1 .1 .1 .1 .1 .0 ∙ inv .2,
     )
