@@ -2,14 +2,14 @@
 
 usage: calls.py OURS REFERENCE [SEED [SCRIPTS]], or calls.py --stored, which writes the hand-made lists, with which crates/calls/stdin ends. Both
 programs read scripts (see crates/calls/src/main.rt) and write what each call did. Beside the hand-made lists, lists are made by seed: valid and
-odd lines, cut anywhere, small rooms, wrong directions, calls after ends.
+odd lines, replies of several lines, cut anywhere, small rooms, wrong directions, calls after ends.
 """
 import random
 import struct
 import subprocess
 import sys
 
-from definitions import CLIENT, MAPPED, line
+from definitions import CLIENT, MAPPED, line, passive, several_lines
 from usage import arguments
 
 LIMIT = 60000  # octets of scripts handed to the programs at once
@@ -53,8 +53,25 @@ def stops():
         yield script(7, greeting, arrival(1, b"held"), arrival(0, AUTH + EPSV, 4096, room), arrival(0, AUTH[-1:] + EPSV))
 
 
+def own_codes():
+    """Replies that end by their own code: own answers wait for that line alone, and it is judged by its first four octets where it flows."""
+    greeting = arrival(1, b"220 hi\r\n")
+    port = b"227 x (192,0,2,31,237,19)\r\n"
+    reply = b"214-a\r\n214\r\n220 b\r\n214 c\r\n"
+    for cut in range(len(reply) + 1):
+        yield script(7, greeting, arrival(1, reply[:cut]), arrival(0, ALGS), arrival(1, reply[cut:]))
+    for code in (b"214", b"150"):
+        opener, ender = code + b"-" + b"x" * 600 + b"\r\n", code + b" " + b"y" * 600 + b"\r\n"
+        yield script(7, greeting, arrival(0, NOOP + EPSV + ALGS), arrival(1, opener), arrival(1, port + b"220 z\r\n"), arrival(1, ender), arrival(1, port * 2))
+    for before in (b"hello\r\n", b"\r\n", b"620-x\r\n", b"150-x\r\n150 y\r\n", b"227-x\r\n", b"214-x\r\n"):
+        yield script(7, greeting, arrival(0, EPSV), arrival(1, before), arrival(0, ALGS), arrival(1, port), arrival(1, b"214 z\r\n"))
+    for opener in (b"214-x", b"214-x\r\n"):
+        yield script(7, greeting, arrival(1, opener), arrival(0, ALGS), end(1), end(0))
+        yield script(7, greeting, arrival(1, opener), arrival(0, AUTH), arrival(1, b"214"), arrival(1, b" y\r\n2"))
+
+
 def hand_made():
-    """Stops in the middle, sixteen owed, AUTH behind owed replies and with held octets, ends in every order."""
+    """Stops in the middle, sixteen owed, AUTH behind owed replies and with held octets, ends in every order, replies of several lines."""
     greeting = arrival(1, b"220 hi\r\n")
     yield script(7, greeting, arrival(0, EPSV), arrival(1, b"227 x (192,0,2,31,237,19)\r\n"))
     yield from stops()
@@ -67,6 +84,7 @@ def hand_made():
     yield script(7, arrival(1, b"2"), end(1), arrival(0, ALGS * 17), arrival(0, NOOP), end(0))
     for first, second in ((0, 1), (1, 0), (0, 0), (1, 1)):
         yield script(7, greeting, arrival(0, b"EP"), arrival(1, b"2"), end(first), end(second), arrival(0, b"SV\r\n"), arrival(1, b"00\r\n"), end(2))
+    yield from own_codes()
 
 
 def every_flag():
@@ -77,17 +95,20 @@ def every_flag():
 
 def made(r):
     """A list of calls by chance."""
-    calls = []
+    calls = [arrival(side, octets) for side, octets in [(1, b"220 hi\r\n"), *passive(r)]] if r.random() < 0.2 else []
     for _ in range(r.randint(1, 14)):
         side = r.choice([0, 0, 0, 1, 1, 1, 1, r.randint(0, 255) if r.random() < 0.1 else 0])
         rooms = [r.choice([0, 1, 5, 6, 40, 48, 511, 512, 1280, 4096, 4096, 4096]) for _ in range(2)]
         if r.random() < 0.08:
             calls.append(end(side, *rooms))
             continue
-        octets = b"".join(line(r, side % 2) for _ in range(r.choice([0, 1, 1, 1, 2, 3, 9])))
+        several = side == 1 and r.random() < 0.25
+        octets = b"".join(several_lines(r) if several else (line(r, side % 2) for _ in range(r.choice([0, 1, 1, 1, 2, 3, 9]))))
         cut = r.randint(0, len(octets))
         for piece in [octets] if r.random() < 0.5 else [octets[:cut], octets[cut:]]:
             calls.append(arrival(side, piece, *rooms))
+            if several and r.random() < 0.5:
+                calls.append(arrival(0, line(r, 0), *rooms))
     return script(r.choice([7, 7, 7, 1, 3, 6, 0, r.randint(0, 255)]), *calls)
 
 

@@ -31,9 +31,14 @@ COMMANDS = [
 REPLIES = [
     b"220 hi", b"200 ok", b"227 x (192,0,2,31,237,19)", b"227 x (192,0,2,31,0,0)", b"227 =1,2,3,4,5,6", b"227 (1,2,3,4,5,6789)", b"227", b"227 ",
     b"227 1,2,3,4,5,6,7", b"227 a 4 (1,2,3,4,5,6)", b"227-x (1,2,3,4,5,6)", b"227 (0255,1,1,1,1,1)", b"227 (1,2,3,4,256,1)",
-    b"227 001,02,3,4,019,000", b"229 x (|||5|)", b"150 wait", b"120", b"500 no", b"600 x", b"099 y", b"220x", b"220-multi", b" mid", b"", b"hello",
-    b"234 go", b"22", b"2200 x", b"100-x", b"227\t1,2,3,4,5,6",
+    b"227 001,02,3,4,019,000", b"229 x (|||5|)", b"150 wait", b"120", b"500 no", b"600 x", b"099 y", b"220x", b"220-multi", b" 220 x", b"", b"hello",
+    b"234 go", b"22", b"2200 x", b"620 x", b"099-y", b"100-x", b"214-x", b"214 end", b"227\t1,2,3,4,5,6",
 ]
+# codes that open a reply of several lines, and what may stand inside one beside its own code
+OPENING = [b"214", b"214", b"211", b"220", b"150", b"227"]
+INSIDE = [b"220 bar is the rated pressure", b"220-x", b"214-x", b"227 (1,2,3,4,5,6)", b"200", b"600 x", b" 214 x", b"hello", b""]
+# what may stand before the 227 that answers EPSV
+BEFORE_PASSIVE = [b"", b"hello\r\n", b"\r\n", b"620-x\n", b"214-x\r\n227 (1,2,3,4,5,6)\r\n214 y\r\n", b"150-x\r\n220 y\r\n150 z\r\n", b"227-x\r\n"]
 END = {0: "end client", 1: "end server"}
 SAYS = {0: "clientSays", 1: "serverSays"}
 
@@ -44,19 +49,46 @@ def in_any_case(r, text):
 
 def line(r, side):
     if r.random() < 0.03:  # around the judged length
-        head = r.choice([b"EPSV", b"AUTH ", b"auth x", b"NOOP", b"AUTHX"] if side == 0 else [b"227 1,2,3,4,5,6", b"220-x", b"hello", b"230 y"])
+        head = r.choice([b"EPSV", b"AUTH ", b"auth x", b"NOOP", b"AUTHX"] if side == 0 else [b"227 1,2,3,4,5,6", b"220-x", b"220 y", b"hello", b"230 y"])
         return head + b" " * (r.randint(509, 514) - len(head)) + r.choice([b"\n", b"\r\n", b"x\r\n"])
     text = r.choice(COMMANDS if side == 0 else REPLIES)
     return (text if side or text.startswith(b"EPRT x") else in_any_case(r, text)) + r.choice(ENDINGS)
 
 
+def several_lines(r):
+    """A reply: its code and a hyphen, lines inside, the same code and a space, which may be missing. One of its lines may flow."""
+    code = r.choice(OPENING)
+    texts = [code + b"-x"] + [r.choice([code, code + b"-again", r.choice(INSIDE), r.choice(INSIDE)]) for _ in range(r.randint(0, 3))]
+    if r.random() < 0.85:
+        texts.append(code + r.choice([b" ", b" end", b" (1,2,3,4,5,6)"]))
+    lines = [text + r.choice(ENDINGS) for text in texts]
+    if r.random() < 0.12:
+        flowing = r.randrange(len(lines))
+        lines[flowing] = texts[flowing].ljust(r.randint(511, 516)) + r.choice([b"\n", b"\r\n"])
+    return lines
+
+
+def passive(r):
+    """EPSV, at times behind another command, and a 227 behind lines that may spoil it."""
+    commands = r.choice([b"EPSV\r\n", b"NOOP\r\nEPSV\r\n"])
+    return [(0, commands), (1, r.choice(BEFORE_PASSIVE) + b"227 x (192,0,2,31,237,19)\r\n")]
+
+
 def session(r):
     """Entries of a session: a side with octets, or a side that ends."""
     entries = [(1, b"220 hi\r\n")] if r.random() < 0.75 else []
+    if r.random() < 0.3:
+        entries += passive(r)
     for _ in range(r.randint(2, 8)):
         side = r.randint(0, 1)
         if r.random() < 0.06:
             entries.append((side, None))
+            continue
+        if r.random() < 0.15:  # with a client line inside a reply
+            before = line(r, 0) if r.random() < 0.5 else b""
+            lines = several_lines(r)
+            place = r.randint(0, len(lines))
+            entries += [(0, before), (1, b"".join(lines[:place])), (0, line(r, 0)), (1, b"".join(lines[place:]))]
             continue
         octets = line(r, side)
         cut = r.randint(0, len(octets))
