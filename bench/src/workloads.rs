@@ -268,10 +268,11 @@ pub fn passing(name: &'static str, octets: usize) -> Workload {
     workload
 }
 
-/// A line of so many octets, LF included, inside a reply of the server that goes on: all but its
-/// LF are held, and it owes and answers nothing, however short it is.
+/// A line of so many octets, LF included, inside a reply that the workload's opening leaves open:
+/// all but its LF are held, and it owes and answers nothing, however short it is.
 pub fn held(name: &'static str, octets: usize) -> Workload {
     let mut workload = Workload::greeted(name);
+    workload.opening.sends(SERVER, b"214-Help.\r\n");
     let mut line = vec![b'x'; octets - 1];
     line.push(b'\n');
     workload.cycle.sends(SERVER, &line);
