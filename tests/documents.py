@@ -1,10 +1,10 @@
-"""The documents say only what is there, and docs/TRACE.md leaves no sentence of document 01's rules out.
+"""The documents say only what is there, and docs/TRACE.md leaves no sentence of document 01's rules out, nor of a request built.
 
 - A name such as `Octets.run` must be declared in one module Octets of some crate's specs/ or proofs/ and in no other of that name, one
   such as `lines::content` must be a public function of the crate `lines`; a relative link must lead to a file.
 - A public name of a definition means one thing: no two pages of specs/ declare it, as a definition or as a constructor.
 - The first cell of each row of docs/TRACE.md is words of document 01 (`..` stands for words left out; a cell in brackets is ours), and
-  together the rows cover the sections traced.
+  together the rows cover the sections traced; so those of a request of document 02, which its note in docs/LANDINGS.md quotes.
 - Every definition of the crates that a reader has to believe stands in docs/TRACE.md.
 - The wrong programs that docs/PROMISES.md names are there, and each public function has at least two of its name.
 - No line of the sources of the crates and of the relay is wider than it may be.
@@ -19,6 +19,7 @@ ROOT = pathlib.Path(__file__).resolve().parent.parent
 SCOPE = ROOT / "docs" / "01-scope.md"
 TRACE = ROOT / "docs" / "TRACE.md"
 PROMISES = ROOT / "docs" / "PROMISES.md"
+LANDINGS = ROOT / "docs" / "LANDINGS.md"
 DOCUMENTS = [ROOT / "README.md", *sorted((ROOT / "docs").glob("*.md"))]
 TRACED = ["The session", "Lines", "Client lines", "Server lines", "Demand 3 written out", "Session files"]
 BELIEVED = ["rules", "octets", "address", "commands", "output", "queue", "places", "gives", "upstream", "downstream", "records", "steps", "session", "files", "fields", "report", "image", "fashlemor", "hosts"]
@@ -90,10 +91,16 @@ def section(document, title):
     return found.group(1) if found else ""
 
 
-def untraced(title):
-    """Faults of a section's rows: words that document 01 has not, and words of it that no row has."""
+def requests():
+    """Each request built, by the title of its rows in docs/TRACE.md, with its words, which its note quotes."""
+    for number, note in re.findall(r"^## Request (\d+):.*?\n(.*?)(?=^## |\Z)", LANDINGS.read_text(), re.M | re.S):
+        yield f"Document 02, request {number}", " ".join(re.findall(r"^> ?(.*)$", note, re.M))
+
+
+def untraced(title, source):
+    """Faults of a section's rows: words that the source has not, and words of it that no row has."""
     rows = [line for line in section(TRACE, title).splitlines() if line.startswith("| ") and not line.startswith("| Sentence")]
-    prose = re.sub(r"^```.*?^```", "", section(SCOPE, title), flags=re.M | re.S)
+    prose = re.sub(r"^```.*?^```", "", source, flags=re.M | re.S)
     text = plain(re.sub(r"(?<!\|)\|(?!\|)", " ", prose))
     left = text
     for row in rows:
@@ -102,13 +109,13 @@ def untraced(title):
             continue
         for piece in (p.strip(" ,;.") for p in re.split(r"(?:^|\s)\.\.(?:\s|$)", cell)):
             if len(piece) > 1 and piece not in text:
-                yield f"docs/TRACE.md: document 01, {title}, has not: {piece}"
+                yield f"docs/TRACE.md: {title} has not: {piece}"
             elif len(piece) > 1:
                 left = left.replace(piece, " \0 ")
     for gap in left.split("\0"):
         words = re.findall(r"\w+", gap)
         if len(words) > GAP:
-            yield f"docs/TRACE.md: no row for document 01, {title}: {' '.join(words[:14])}"
+            yield f"docs/TRACE.md: no row for {title}: {' '.join(words[:14])}"
 
 
 def functions_in(source):
@@ -163,7 +170,9 @@ def faults():
             if name not in public_functions(crate):
                 yield f"{where}: {crate}::{name} is no public function"
     for title in TRACED:
-        yield from untraced(title)
+        yield from untraced(title, section(SCOPE, title))
+    for title, words in requests():
+        yield from untraced(title, words)
     yield from missing_edits()
     yield from shared()
     traced = TRACE.read_text()
