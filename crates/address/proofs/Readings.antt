@@ -36,32 +36,32 @@ pub read-on : (h g r rest : Option (List ℕ)) → r ≡ withinSixteen (both h g
 read-on h g r rest e = rw (e, fits-both (both h g) rest, both-both h g rest)
 
 -- what a refused reading is before is refused
-pub refused-before : (h : Reading) (o : Option (List ℕ)) → h .valid ≡ false → octetsOf h ≡ withinSixteen (both (octetsOf h) o)
+pub refused-before : (h : Reading) (l : List ℕ) (o : Option (List ℕ)) → h .valid ≡ false → octetsOf h l ≡ withinSixteen (both (octetsOf h l) o)
 unfolding octetsOf withinSixteen both choose
-refused-before h o e = rw e
+refused-before h l o e = rw e
 
 pub refused-after : (h o : Option (List ℕ)) → o ≡ none → none ≡ withinSixteen (both h o)
 unfolding withinSixteen
 refused-after h o e = rw (e, both-none h)
 
 -- one octet more
-full-by : (h : Reading) (x : ℕ) (v : Bool) → length (take (h .count) (h .octets)) ≡ 16 → none ≡ withinSixteen (both (choose v (some (take (h .count) (h .octets))) none) (some (x ∷ [])))
+full-by : (h : Reading) (l : List ℕ) (x : ℕ) (v : Bool) → length (take (h .count) l) ≡ 16 → none ≡ withinSixteen (both (choose v (some (take (h .count) l)) none) (some (x ∷ [])))
 unfolding withinSixteen both choose
-full-by h x true e =
-    let l : 16 < length (take (h .count) (h .octets) ++ (x ∷ [])) = rw length-append (omega arith) in
-    rw (lt-leb _ 16 l)
-full-by h x false e = refl
+full-by h l x true e =
+    let more : 16 < length (take (h .count) l ++ (x ∷ [])) = rw length-append (omega arith) in
+    rw (lt-leb _ 16 more)
+full-by h l x false e = refl
 
-module _ (h : Reading) (x : ℕ) (size : length (h .octets) ≡ 16) where
-  pub octet-full : h .count ≤ 16 → 15 < h .count → none ≡ withinSixteen (both (octetsOf h) (some (x ∷ [])))
+module _ (h : Reading) (l : List ℕ) (x : ℕ) (size : length l ≡ 16) where
+  pub octet-full : h .count ≤ 16 → 15 < h .count → none ≡ withinSixteen (both (octetsOf h l) (some (x ∷ [])))
   unfolding octetsOf
-  octet-full a b = full-by h x (h .valid) (length-take-le (h .count) (h .octets) (omega arith) ∙ omega arith)
+  octet-full a b = full-by h l x (h .valid) (length-take-le (h .count) l (omega arith) ∙ omega arith)
 
-  pub octet-put : h .valid ≡ true → h .count ≤ 15 → some (take (h .count + 1) (set (h .octets) (h .count) x)) ≡ withinSixteen (both (octetsOf h) (some (x ∷ [])))
+  pub octet-put : h .valid ≡ true → h .count ≤ 15 → some (take (h .count + 1) (set l (h .count) x)) ≡ withinSixteen (both (octetsOf h l) (some (x ∷ [])))
   unfolding octetsOf withinSixteen both choose
   octet-put v a =
-      let short : length (take (h .count) (h .octets) ++ (x ∷ [])) ≤ 16 = simp (length-append, length-take-le (h .count) (h .octets) (omega arith)) (omega arith) in
-      rw (v, le-leb _ 16 short, add-one, take-suc-set (h .octets) (h .count) x (omega arith))
+      let short : length (take (h .count) l ++ (x ∷ [])) ≤ 16 = simp (length-append, length-take-le (h .count) l (omega arith)) (omega arith) in
+      rw (v, le-leb _ 16 short, add-one, take-suc-set l (h .count) x (omega arith))
 
 -- two octets more
 pub octets-put : (h a b g : Option (List ℕ)) (x y : ℕ) → g ≡ some (x ∷ y ∷ []) → a ≡ withinSixteen (both h (some (x ∷ []))) → b ≡ withinSixteen (both a (some (y ∷ []))) → b ≡ withinSixteen (both h g)

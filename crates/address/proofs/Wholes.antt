@@ -54,20 +54,20 @@ filled-fits none q = refl
 filled-fits (some a) q = filled-left a (withinSixteen q) (leb (length a) 16) refl ∙ filled-after a q
 
 -- eight groups, by what the reading holds
-module _ (h : Reading) where
-  pub eight-refused : h .valid ≡ false → eightGroups (octetsOf h) ≡ none
+module _ (h : Reading) (l : List ℕ) where
+  pub eight-refused : h .valid ≡ false → eightGroups (octetsOf h l) ≡ none
   unfolding octetsOf choose eightGroups
   eight-refused e = rw e
 
-  pub eight-other : length (h .octets) ≡ 16 → h .valid ≡ true → h .count ≤ 16 → (h .count ≡ 16 → ⊥) → eightGroups (octetsOf h) ≡ none
+  pub eight-other : length l ≡ 16 → h .valid ≡ true → h .count ≤ 16 → (h .count ≡ 16 → ⊥) → eightGroups (octetsOf h l) ≡ none
   unfolding octetsOf choose eightGroups
   eight-other size v room other =
-      let n : length (take (h .count) (h .octets)) ≡ h .count = length-take-le (h .count) (h .octets) (omega arith) in
+      let n : length (take (h .count) l) ≡ h .count = length-take-le (h .count) l (omega arith) in
       rw (v, n, ne-eqb (h .count) 16 other)
 
-  pub eight-read : length (h .octets) ≡ 16 → h .valid ≡ true → h .count ≡ 16 → eightGroups (octetsOf h) ≡ some (h .octets)
+  pub eight-read : length l ≡ 16 → h .valid ≡ true → h .count ≡ 16 → eightGroups (octetsOf h l) ≡ some l
   unfolding octetsOf choose eightGroups
-  eight-read size v all = rw (v, take-all (h .count) (h .octets) (omega arith), size)
+  eight-read size v all = rw (v, take-all (h .count) l (omega arith), size)
 
 -- two halves put into zeros, one at each end
 module _ (a b z : List ℕ) (k : ℕ) (total : length a + k + length b ≡ 16) (zeros : z ≡ replicate 16 0) where
@@ -86,25 +86,25 @@ module _ (a b z : List ℕ) (k : ℕ) (total : length a + k + length b ≡ 16) (
       rw (behind-a, take-at (a ++ replicate k 0) (replicate (length b) 0) n front, drop-of-length-le ((a ++ replicate k 0) ++ replicate (length b) 0) whole, append-nil, append-assoc)
 
 -- two halves, by what the readings hold
-module _ (h l : Reading) where
-  pub filled-no-left : h .valid ≡ false → filled (octetsOf h) (octetsOf l) ≡ none
+module _ (h l : Reading) (x y : List ℕ) where
+  pub filled-no-left : h .valid ≡ false → filled (octetsOf h x) (octetsOf l y) ≡ none
   unfolding octetsOf choose filled
   filled-no-left e = rw e
 
-  pub filled-no-right : h .valid ≡ true → l .valid ≡ false → filled (octetsOf h) (octetsOf l) ≡ none
+  pub filled-no-right : h .valid ≡ true → l .valid ≡ false → filled (octetsOf h x) (octetsOf l y) ≡ none
   unfolding octetsOf choose filled
   filled-no-right v e = rw (v, e)
 
-module _ (h l : Reading) (vh : h .valid ≡ true) (vl : l .valid ≡ true) (m : length (take (h .count) (h .octets)) ≡ h .count) (n : length (take (l .count) (l .octets)) ≡ l .count) where
-  pub filled-long : 14 < h .count + l .count → filled (octetsOf h) (octetsOf l) ≡ none
+module _ (h l : Reading) (x y : List ℕ) (vh : h .valid ≡ true) (vl : l .valid ≡ true) (m : length (take (h .count) x) ≡ h .count) (n : length (take (l .count) y) ≡ l .count) where
+  pub filled-long : 14 < h .count + l .count → filled (octetsOf h x) (octetsOf l y) ≡ none
   unfolding octetsOf choose filled
   filled-long e = rw (vh, vl, m, n, lt-leb (h .count + l .count) 14 e)
 
-  pub filled-read : h .count + l .count ≤ 14 → filled (octetsOf h) (octetsOf l) ≡ some (paste (paste (replicate 16 0) 0 (h .octets) (h .count)) (16 - l .count) (l .octets) (l .count))
+  pub filled-read : h .count + l .count ≤ 14 → filled (octetsOf h x) (octetsOf l y) ≡ some (paste (paste (replicate 16 0) 0 x (h .count)) (16 - l .count) y (l .count))
   unfolding octetsOf choose filled
   filled-read e =
-      let a : List ℕ = take (h .count) (h .octets) in
-      let b : List ℕ = take (l .count) (l .octets) in
+      let a : List ℕ = take (h .count) x in
+      let b : List ℕ = take (l .count) y in
       let k : ℕ = 16 - (h .count + l .count) in
       let put : (take (16 - l .count) (a ++ drop (length a) (replicate 16 0)) ++ b) ++ drop (16 - l .count + length b) (a ++ drop (length a) (replicate 16 0)) ≡ a ++ (replicate k 0 ++ b) =
       pasted-halves a b (replicate 16 0) k (omega arith) refl (16 - l .count) (omega arith) in

@@ -22,18 +22,18 @@ abbrev pub groupGives : Group → Option (List ℕ)
 groupGives (Group.Octets h l) = some (h ∷ l ∷ [])
 groupGives Group.Nothing = none
 
--- what a reading holds: its first octets, unless it is none
-unfoldable pub octetsOf : Reading → Option (List ℕ)
-octetsOf h = choose (h .valid) (some (take (h .count) (h .octets))) none
+-- what a reading holds: the first octets of its array, unless it is none
+unfoldable pub octetsOf : Reading → List ℕ → Option (List ℕ)
+octetsOf h octets = choose (h .valid) (some (take (h .count) octets)) none
 
 -- a reading of at most sixteen octets: a longer one is no part of an address
 unfoldable pub withinSixteen : Option (List ℕ) → Option (List ℕ)
 withinSixteen none = none
 withinSixteen (some a) = choose (leb (length a) 16) (some a) none
 
--- r is a reading of what o says
-pub record Reads (r : Reading) (o : Option (List ℕ)) : Type 0 where
-  pub gives : octetsOf r ≡ withinSixteen o
+-- r is, in this array, a reading of what o says
+pub record Reads (r : Reading) (octets : List ℕ) (o : Option (List ℕ)) : Type 0 where
+  pub gives : octetsOf r octets ≡ withinSixteen o
   pub room : r .count ≤ 16
 
 -- what stands before and after two octets at n, if n is in the text

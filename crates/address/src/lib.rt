@@ -4,9 +4,9 @@ use octets::find;
 use octets::read_number;
 use rules::IPV6;
 ghost use mathlib.Core.Path.{_≡_};
-ghost use mathlib.Core.List.{[], _∷_};
+ghost use mathlib.Core.List.{List, [], _∷_};
 ghost use mathlib.Core.Option.{none, some};
-ghost use Prim.Native.Nat.{_+_, _<_, _≤_};
+ghost use Prim.Native.Nat.{ℕ, _+_, _<_, _≤_};
 ghost use lib.ListN.{length};
 ghost use lib.Seq.{paste};
 ghost use Rattle.rules.specs.Octets.{choose, colon, dot, parts};
@@ -27,11 +27,11 @@ enum Group {
     Nothing,
 }
 
-// The octets read so far, at most sixteen. What is not valid stays so.
+// How many octets are read so far, at most sixteen. They lie in an array that is lent: handed on by value it would be
+// loaded whole after each octet stored. What is not valid stays so.
 struct Reading {
     pub valid: bool,
     pub count: usize,
-    pub octets: [u8; IPV6],
 }
 
 // The value of a hex digit, and 16 for any other octet.
@@ -71,30 +71,29 @@ fn hex_group(digits: &[u8]) -> Group
 
 // Nothing is read yet.
 fn nothing_yet() -> Reading
-    ensures { λ r. ⌜ (octetsOf r ≡ some []) × (r .count ≤ 16) ⌝ }
+    ensures { λ r. ⌜ ((octets : List ℕ) → octetsOf r octets ≡ some []) × (r .count ≤ 16) ⌝ }
 {
     Reading {
         valid: true,
         count: 0,
-        octets: [0u8; IPV6],
     }
 }
 
 // What was read is no address.
 fn refused() -> Reading
-    ensures { λ r. ⌜ (octetsOf r ≡ none) × (r .count ≤ 16) ⌝ }
+    ensures { λ r. ⌜ ((octets : List ℕ) → octetsOf r octets ≡ none) × (r .count ≤ 16) ⌝ }
 {
     Reading {
         valid: false,
         count: 0,
-        octets: [0u8; IPV6],
     }
 }
 
 // One octet more.
-fn with_octet(before: Reading, x: u8) -> Reading
-    requires { ⌜ before .count ≤ 16 ⌝ }
-    ensures { λ r. ⌜ Reads r (both (octetsOf before) (some (x ∷ []))) ⌝ }
+fn with_octet(octets: &mut [u8], before: Reading, x: u8) -> Reading
+    requires { ⌜ (before .count ≤ 16) × (length (now octets) ≡ 16) ⌝ }
+    ensures { λ r.
+        ⌜ Reads r (now (octets .exit)) (both (octetsOf before (now (octets .entry))) (some (x ∷ []))) ⌝ }
 {
     let count = before.count;
     if !before.valid {
@@ -103,35 +102,38 @@ fn with_octet(before: Reading, x: u8) -> Reading
     if count > 15 {
         return refused();
     }
-    let mut octets = before.octets;
     octets[count] = x;
     Reading {
         valid: true,
         count: count + 1,
-        octets,
     }
 }
 
 // The two octets of a group more.
-fn with_group(before: Reading, digits: &[u8]) -> Reading
-    requires { ⌜ before .count ≤ 16 ⌝ }
-    ensures { λ r. ⌜ Reads r (both (octetsOf before) (groupOf (now (digits .entry)))) ⌝ }
+fn with_group(octets: &mut [u8], before: Reading, digits: &[u8]) -> Reading
+    requires { ⌜ (before .count ≤ 16) × (length (now octets) ≡ 16) ⌝ }
+    ensures { λ r.
+        let o = groupOf (now (digits .entry)) in
+        ⌜ Reads r (now (octets .exit)) (both (octetsOf before (now (octets .entry))) o) ⌝ }
 {
     let Group::Octets(high, low) = hex_group(digits) else {
         return refused();
     };
-    with_octet(with_octet(before, high), low)
+    let first = with_octet(octets, before, high);
+    with_octet(octets, first, low)
 }
 
 // The octet of a decimal number more.
-fn with_number(before: Reading, digits: &[u8]) -> Reading
-    requires { ⌜ before .count ≤ 16 ⌝ }
-    ensures { λ r. ⌜ Reads r (both (octetsOf before) (octetNumber (now (digits .entry)))) ⌝ }
+fn with_number(octets: &mut [u8], before: Reading, digits: &[u8]) -> Reading
+    requires { ⌜ (before .count ≤ 16) × (length (now octets) ≡ 16) ⌝ }
+    ensures { λ r.
+        let o = octetNumber (now (digits .entry)) in
+        ⌜ Reads r (now (octets .exit)) (both (octetsOf before (now (octets .entry))) o) ⌝ }
 {
     let Number::Value(value) = read_number(digits, 3, 0, 255) else {
         return refused();
     };
-    with_octet(before, value as u8)
+    with_octet(octets, before, value as u8)
 }
 
 // How often x stands in s.
@@ -150,60 +152,66 @@ fn times(s: &[u8], x: u8) -> usize
 }
 
 // The octets of dotted numbers more.
-fn with_dotted(before: Reading, text: &[u8]) -> Reading
-    requires { ⌜ before .count ≤ 16 ⌝ }
-    ensures { λ r. ⌜ Reads r (both (octetsOf before) (dottedOf (parts dot (now (text .entry))))) ⌝ }
+fn with_dotted(octets: &mut [u8], before: Reading, text: &[u8]) -> Reading
+    requires { ⌜ (before .count ≤ 16) × (length (now octets) ≡ 16) ⌝ }
+    ensures { λ r.
+        let o = dottedOf (parts dot (now (text .entry))) in
+        ⌜ Reads r (now (octets .exit)) (both (octetsOf before (now (octets .entry))) o) ⌝ }
 {
     let mut read = before;
     let mut i = 0;
     let mut e = find(text, 0, 46);
     while e < text.len() {
-        read = with_number(read, &text[i..e]);
+        read = with_number(octets, read, &text[i..e]);
         i = e + 1;
         e = find(text, i, 46);
     }
-    with_number(read, &text[i..])
+    with_number(octets, read, &text[i..])
 }
 
 // The octets of the last part of a text more: four dotted numbers, or a group.
-fn with_last(before: Reading, text: &[u8]) -> Reading
-    requires { ⌜ before .count ≤ 16 ⌝ }
-    ensures { λ r. ⌜ Reads r (both (octetsOf before) (lastGroup (now (text .entry)))) ⌝ }
+fn with_last(octets: &mut [u8], before: Reading, text: &[u8]) -> Reading
+    requires { ⌜ (before .count ≤ 16) × (length (now octets) ≡ 16) ⌝ }
+    ensures { λ r.
+        let o = lastGroup (now (text .entry)) in
+        ⌜ Reads r (now (octets .exit)) (both (octetsOf before (now (octets .entry))) o) ⌝ }
 {
     if times(text, 46) == 3 {
-        with_dotted(before, text)
+        with_dotted(octets, before, text)
     } else {
-        with_group(before, text)
+        with_group(octets, before, text)
     }
 }
 
 // Groups with single colons between; `ends` says that they end the text.
-fn groups(text: &[u8], ends: bool) -> Reading
-    ensures { λ r. ⌜ Reads r (groupsOf ends (parts colon (now (text .entry)))) ⌝ }
+fn groups(octets: &mut [u8], text: &[u8], ends: bool) -> Reading
+    requires { ⌜ length (now octets) ≡ 16 ⌝ }
+    ensures { λ r. ⌜ Reads r (now (octets .exit)) (groupsOf ends (parts colon (now (text .entry)))) ⌝ }
 {
     let mut read = nothing_yet();
     let mut i = 0;
     let mut e = find(text, 0, 58);
     while e < text.len() {
-        read = with_group(read, &text[i..e]);
+        read = with_group(octets, read, &text[i..e]);
         i = e + 1;
         e = find(text, i, 58);
     }
     if ends {
-        with_last(read, &text[i..])
+        with_last(octets, read, &text[i..])
     } else {
-        with_group(read, &text[i..])
+        with_group(octets, read, &text[i..])
     }
 }
 
 // One side of `::`: nothing, or groups.
-fn half(text: &[u8], ends: bool) -> Reading
-    ensures { λ r. ⌜ Reads r (halfOf ends (now (text .entry))) ⌝ }
+fn half(octets: &mut [u8], text: &[u8], ends: bool) -> Reading
+    requires { ⌜ length (now octets) ≡ 16 ⌝ }
+    ensures { λ r. ⌜ Reads r (now (octets .exit)) (halfOf ends (now (text .entry))) ⌝ }
 {
     if text.len() == 0 {
         return nothing_yet();
     }
-    groups(text, ends)
+    groups(octets, text, ends)
 }
 
 // Where the first `::` stands, or the end of the text.
@@ -234,9 +242,9 @@ fn no_address() -> Ipv6Read
 }
 
 // Without `::` there are sixteen octets.
-fn eight_groups(read: Reading) -> Ipv6Read
+fn eight_groups(read: Reading, octets: [u8; IPV6]) -> Ipv6Read
     requires { ⌜ read .count ≤ 16 ⌝ }
-    ensures { λ r. ⌜ r ≡ ipv6Read (eightGroups (octetsOf read)) ⌝ }
+    ensures { λ r. ⌜ r ≡ ipv6Read (eightGroups (octetsOf read octets)) ⌝ }
 {
     if !read.valid {
         return no_address();
@@ -244,7 +252,6 @@ fn eight_groups(read: Reading) -> Ipv6Read
     if read.count != 16 {
         return no_address();
     }
-    let octets = read.octets;
     Ipv6Read {
         valid: true,
         octets,
@@ -252,9 +259,9 @@ fn eight_groups(read: Reading) -> Ipv6Read
 }
 
 // The first n octets of src put into dst from `at` on.
-fn pasted(dst: [u8; IPV6], at: usize, src: [u8; IPV6], n: usize) -> [u8; IPV6]
-    requires { ⌜ at + n ≤ 16 ⌝ }
-    ensures { λ r. ⌜ r ≡ paste dst at src n ⌝ }
+fn pasted(dst: [u8; IPV6], at: usize, src: &[u8], n: usize) -> [u8; IPV6]
+    requires { ⌜ (at + n ≤ 16) × (n ≤ length (now src)) ⌝ }
+    ensures { λ r. ⌜ r ≡ paste dst at (now (src .entry)) n ⌝ }
 {
     let mut octets = dst;
     let mut i = 0;
@@ -266,9 +273,11 @@ fn pasted(dst: [u8; IPV6], at: usize, src: [u8; IPV6], n: usize) -> [u8; IPV6]
 }
 
 // With `::` there are zeros, for one group at least, between its two sides.
-fn filled(before: Reading, after: Reading) -> Ipv6Read
-    requires { ⌜ (before .count ≤ 16) × (after .count ≤ 16) ⌝ }
-    ensures { λ r. ⌜ r ≡ ipv6Read (filledOf (octetsOf before) (octetsOf after)) ⌝ }
+fn filled(before: Reading, head: &[u8], after: Reading, tail: &[u8]) -> Ipv6Read
+    requires counts { ⌜ (before .count ≤ 16) × (after .count ≤ 16) ⌝ }
+    requires lengths { ⌜ (length (now head) ≡ 16) × (length (now tail) ≡ 16) ⌝ }
+    ensures { λ r.
+        ⌜ r ≡ ipv6Read (filledOf (octetsOf before (now (head .entry))) (octetsOf after (now (tail .entry)))) ⌝ }
 {
     if !before.valid {
         return no_address();
@@ -281,8 +290,6 @@ fn filled(before: Reading, after: Reading) -> Ipv6Read
     if m + n > 14 {
         return no_address();
     }
-    let head = before.octets;
-    let tail = after.octets;
     let octets = pasted(pasted([0u8; IPV6], 0, head, m), IPV6 - n, tail, n);
     Ipv6Read {
         valid: true,
@@ -295,9 +302,14 @@ pub fn ipv6(text: &[u8]) -> Ipv6Read
     ensures { λ r. ⌜ r ≡ ipv6Read (ipv6Of (now (text .entry))) ⌝ }
 {
     let at = double_colon(text);
+    let mut octets = [0u8; IPV6];
     if at < text.len() {
         let rest = at + 2;
-        return filled(half(&text[..at], false), half(&text[rest..], true));
+        let mut tail = [0u8; IPV6];
+        let before = half(&mut octets, &text[..at], false);
+        let after = half(&mut tail, &text[rest..], true);
+        return filled(before, &octets, after, &tail);
     }
-    eight_groups(groups(text, true))
+    let read = groups(&mut octets, text, true);
+    eight_groups(read, octets)
 }

@@ -7,10 +7,11 @@ use Rattle.address.proofs.half.Statement.{statement}
 use Rattle.address.proofs.half.Tie as tie
 
 returns : tie.Need-returns
-returns c = record { gives = c .nothing-yet .ensures .0 ∙ half-empty _ _ (c .before .if1 .taken); room = c .nothing-yet .ensures .1 }
+returns c = record { gives = c .nothing-yet .ensures .0 _ ∙ half-empty _ _ (c .before .if1 .taken); room = c .nothing-yet .ensures .1 }
 
 returns-2 : tie.Need-returns-2
-returns-2 c = record { gives = c .groups .ensures .gives ∙ ap withinSixteen (half-groups _ _ (c .before .if1 .left)); room = c .groups .ensures .room }
+returns-2 c = record { gives = c .before .before .groups .ensures .gives ∙ ap withinSixteen (half-groups _ _ (c .before .before .before .before .if1 .left)); room = c .before .before .groups .ensures .room }
 
 pub half-spec : {M : Type 1} → statement M
-half-spec = tie.close (tie.spec (λ c κs. search needs) returns (λ c κs. search needs) returns-2)
+half-spec =
+    tie.close (tie.spec (λ c κs. search needs) returns (λ c κs. search needs) (λ c. search needs) returns-2)

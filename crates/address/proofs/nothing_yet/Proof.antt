@@ -8,7 +8,7 @@ use Rattle.address.proofs.nothing_yet.Tie as tie
 
 returns : tie.Need-returns
 unfolding octetsOf choose
-returns c = (refl, omega arith)
+returns c = ((λ octets. refl), omega arith)
 
 pub nothing-yet-spec : {M : Type 1} → statement M
 nothing-yet-spec = tie.close (tie.spec returns)

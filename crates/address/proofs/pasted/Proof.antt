@@ -10,16 +10,16 @@ use Rattle.address.proofs.pasted.Statement.{statement}
 use Rattle.address.proofs.pasted.Tie as tie
 
 abbrev Inv-loop : tie.InvT-loop
-Inv-loop at n src octets₀ i₀ octets i = (i ≤ n) × (octets ≡ paste octets₀ at src i)
+Inv-loop at src n octets₀ i₀ octets i = (i ≤ n) × (octets ≡ paste octets₀ at src i)
 
 abbrev μ-loop : tie.MeasureT-loop
-μ-loop at n src octets₀ i₀ octets i = n - i
+μ-loop at src n octets₀ i₀ octets i = n - i
 
 loop-holds : tie.Need-loop-holds Inv-loop μ-loop
-loop-holds c = (omega arith, paste-zero (c .args .dst) (c .args .at) (c .args .t3))
+loop-holds c = (omega arith, paste-zero (c .args .dst) (c .args .at) (c .args .src .now))
 
-array-read-octets : tie.Need-array-read-octets Inv-loop μ-loop
-array-read-octets c = search needs
+shared-slice-read-octets : tie.Need-shared-slice-read-octets Inv-loop μ-loop
+shared-slice-read-octets c = omega arith
 
 add-octets : tie.Need-add-octets Inv-loop μ-loop
 add-octets c = omega arith
@@ -35,11 +35,10 @@ loop-less c = omega arith
 
 loop-again : tie.Need-loop-again Inv-loop μ-loop
 loop-again c =
-    let a = c .before .before .args in
-    let l = c .before .loop in
+    let a = c .before .before .before .args in
+    let l = c .before .before .loop in
     let d : length (a .dst) ≡ 16 = search needs in
-    let s : length (a .t3) ≡ 16 = search needs in
-    (omega arith, rw (l .inv .1, add-one (l .i)) (paste-suc (a .dst) (a .at) (a .t3) (l .i) 0 (omega arith) (omega arith)))
+    (omega arith, rw (l .inv .1, add-one (l .i)) (paste-suc (a .dst) (a .at) (a .src .now) (l .i) 0 (omega arith) (omega arith)))
 
 returns : tie.Need-returns Inv-loop μ-loop
 returns c = let all : c .before .loop .i ≡ c .before .before .args .n = omega arith in c .before .loop .inv .1 ∙ rw all
@@ -51,7 +50,7 @@ pasted-spec =
     Inv-loop
     μ-loop
     loop-holds
-    array-read-octets
+    shared-slice-read-octets
     add-octets
     array-write-octets
     add-i

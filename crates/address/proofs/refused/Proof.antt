@@ -8,7 +8,7 @@ use Rattle.address.proofs.refused.Tie as tie
 
 returns : tie.Need-returns
 unfolding octetsOf choose
-returns c = (refl, omega arith)
+returns c = ((λ octets. refl), omega arith)
 
 pub refused-spec : {M : Type 1} → statement M
 refused-spec = tie.close (tie.spec returns)
