@@ -302,7 +302,7 @@ fn refusal_in(image: &[u8], direction: u8) -> Refusal
     ensures { λ r. ⌜ r ≡ refusalBy (refusalOf (fieldsIn (now (image .entry))) direction) ⌝ }
 {
     let control = control_in(image);
-    let kinds = kinds_from(&image[layout::KINDS..layout::COMMAND]);
+    let kinds = &image[layout::KINDS..layout::COMMAND];
     refusal_on(image[layout::LIVE] == 1, control, kinds, direction)
 }
 

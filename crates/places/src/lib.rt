@@ -94,6 +94,17 @@ pub fn has_ended(direction: Direction) -> bool
     }
 }
 
+// The direction, field by field. Copied whole it drags its padding along, in wide loads that wait for narrow stores.
+pub fn copied(direction: Direction) -> Direction
+    ensures { λ r. ⌜ r ≡ direction ⌝ }
+{
+    let place = direction.place;
+    Direction {
+        place,
+        held: direction.held,
+    }
+}
+
 // The direction, whose octets pass at once from now on unless it has ended.
 pub fn passes_from_now(direction: Direction) -> Direction
     ensures { λ r. ⌜ r ≡ directionFromNow direction (direction .place) ⌝ }

@@ -1,9 +1,7 @@
 // The record of a session, its control rebuilt, and what is refused or has to wait.
 ghost use mathlib.Core.Path.{_≡_};
-ghost use Prim.Native.Nat.{_≤_};
-ghost use lib.ListN.{take};
 ghost use Rattle.rules.specs.Octets.{every};
-ghost use Rattle.rules.specs.Answers.{sideOf, isQueueFull, mostOwed};
+ghost use Rattle.rules.specs.Answers.{sideOf, isQueueFull};
 ghost use Rattle.places.specs.Places.{isPassing};
 ghost use Rattle.queue.specs.Kinds.{isListed};
 ghost use Rattle.records.specs.Controls.{withClient, withServer, withEnded};
@@ -11,6 +9,8 @@ ghost use Rattle.records.specs.Sound.{soundDirection, soundOf, direction
 ghost use Rattle.records.specs.Sound.{blocked as isBlocked, holdable as areHoldable, sideIf};
 use places::Direction;
 use places::Place;
+use places::copied;
+use places::first_octets;
 use places::has_ended;
 use places::is_passing;
 use rules::Answer;
@@ -57,13 +57,12 @@ pub enum Refusal {
     Nothing,
 }
 
-// Every kind owed is listed.
-fn kinds_listed(kinds: Kinds, owed: usize) -> bool
-    requires { ⌜ owed ≤ mostOwed ⌝ }
-    ensures { λ r. ⌜ r ≡ every isListed (take owed kinds) ⌝ }
+// Every kind is listed.
+fn kinds_listed(kinds: &[u8]) -> bool
+    ensures { λ r. ⌜ r ≡ every isListed (now (kinds .entry)) ⌝ }
 {
     let mut i = 0;
-    while i < owed {
+    while i < kinds.len() {
         if queue::LAST < kinds[i] {
             return false;
         }
@@ -89,8 +88,8 @@ fn sound_direction(direction: Direction) -> bool
 }
 
 // A record of these parts is none that number 4 refuses.
-fn sound(live: bool, control: Control, kinds: Kinds) -> bool
-    ensures { λ r. ⌜ r ≡ soundOf live control kinds ⌝ }
+fn sound(live: bool, control: Control, kinds: &[u8]) -> bool
+    ensures { λ r. ⌜ r ≡ soundOf live control (now (kinds .entry)) ⌝ }
 {
     if !live {
         return false;
@@ -98,7 +97,7 @@ fn sound(live: bool, control: Control, kinds: Kinds) -> bool
     if OWED < control.owed {
         return false;
     }
-    if !kinds_listed(kinds, control.owed) {
+    if !kinds_listed(first_octets(kinds, control.owed)) {
         return false;
     }
     let client = control.client;
@@ -119,9 +118,10 @@ fn direction_of(control: Control, number: u8) -> Direction
     control.server
 }
 
-// What refuses a call on the direction of a number: 3, 4, 6, in this order. These parts of the record decide.
-pub fn refusal_on(live: bool, control: Control, kinds: Kinds, direction: u8) -> Refusal
-    ensures { λ r. ⌜ r ≡ refusalBy (refusalOn live control kinds direction) ⌝ }
+// What refuses a call on the direction of a number: 3, 4, 6, in this order. These parts of the record decide. The kinds
+// are read where they lie, those owed alone: a load of all sixteen would wait for the store of the last one.
+pub fn refusal_on(live: bool, control: Control, kinds: &[u8], direction: u8) -> Refusal
+    ensures { λ r. ⌜ r ≡ refusalBy (refusalOn live control (now (kinds .entry)) direction) ⌝ }
 {
     if 2 <= direction {
         return Refusal::By(Answer::UnknownDirection);
@@ -141,7 +141,7 @@ pub fn refusal_of(session: Session, direction: u8) -> Refusal
 {
     let control = session.control;
     let kinds = session.kinds;
-    refusal_on(session.live, control, kinds, direction)
+    refusal_on(session.live, control, &kinds, direction)
 }
 
 // Own answers have to wait.
@@ -167,9 +167,12 @@ pub fn with_client(control: Control, switches: Switches, client: Direction, owed
 {
     let other = control.server;
     Control {
-        switches,
-        client,
-        server: other,
+        switches: Switches {
+            epsv: switches.epsv,
+            eprt: switches.eprt,
+        },
+        client: copied(client),
+        server: copied(other),
         owed,
         opening: control.opening,
     }
@@ -182,9 +185,12 @@ pub fn with_server(control: Control, server: Direction, owed: usize, opening: u3
     let switches = control.switches;
     let other = control.client;
     Control {
-        switches,
-        client: other,
-        server,
+        switches: Switches {
+            epsv: switches.epsv,
+            eprt: switches.eprt,
+        },
+        client: copied(other),
+        server: copied(server),
         owed,
         opening,
     }

@@ -9,4 +9,4 @@ unfolding sound refusalOf
 returns c = c .refusal-on .ensures
 
 pub refusal-of-spec : {M : Type 1} → statement M
-refusal-of-spec = tie.close (tie.spec (λ c κs. search needs) returns)
+refusal-of-spec = tie.close (tie.spec (λ c. search needs) (λ c κs. search needs) returns)

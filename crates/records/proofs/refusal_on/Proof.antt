@@ -8,7 +8,7 @@ use Rattle.records.proofs.refusal_on.Statement.{statement}
 use Rattle.records.proofs.refusal_on.Tie as tie
 
 returns : tie.Need-returns
-returns c = unknown (c .before .args .direction) _ _ (c .if1 .taken)
+returns c = unknown (c .before .before .args .direction) _ _ (c .if1 .taken)
 
 returns-2 : tie.Need-returns-2
 returns-2 c = unsound _ _ _ (c .before .before .if1 .left) (c .before .sound .ensures) (c .if2 .taken)
