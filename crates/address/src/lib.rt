@@ -27,8 +27,8 @@ enum Group {
     Nothing,
 }
 
-// How many octets are read so far, at most sixteen. They lie in an array that is lent: handed on by value it would be
-// loaded whole after each octet stored. What is not valid stays so.
+// What is read so far: whether it is valid still, and how many octets it has, at most sixteen. What is not valid stays
+// so. The octets lie in an array that is lent: handed on by value it would be loaded whole after each octet stored.
 struct Reading {
     pub valid: bool,
     pub count: usize,

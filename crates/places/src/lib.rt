@@ -24,7 +24,7 @@ pub struct Direction {
     pub held: usize,
 }
 
-// The first n octets of a line, or the whole line where it has fewer.
+// The first n octets of a line or of the kinds, or all of them where there are fewer.
 pub fn first_octets(line: &[u8], n: usize) -> &[u8]
     ensures { λ r. ⌜ now r ≡ take n (now (line .entry)) ⌝ }
 {

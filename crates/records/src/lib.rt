@@ -119,7 +119,8 @@ fn direction_of(control: Control, number: u8) -> Direction
 }
 
 // What refuses a call on the direction of a number: 3, 4, 6, in this order. These parts of the record decide. The kinds
-// are read where they lie, those owed alone: a load of all sixteen would wait for the store of the last one.
+// are read where they lie, those owed alone, or as many of them as there are: a load of all sixteen would wait for the
+// store of the last one.
 pub fn refusal_on(live: bool, control: Control, kinds: &[u8], direction: u8) -> Refusal
     ensures { λ r. ⌜ r ≡ refusalBy (refusalOn live control (now (kinds .entry)) direction) ⌝ }
 {
@@ -161,7 +162,8 @@ pub fn blocked(control: Control) -> bool
     }
 }
 
-// The control with what the client's octets change.
+// The control with what the client's octets change. It is built field by field: a struct that is copied whole is loaded
+// in wide loads, which wait for the narrow stores before them.
 pub fn with_client(control: Control, switches: Switches, client: Direction, owed: usize) -> Control
     ensures { λ r. ⌜ r ≡ withClient control switches client owed ⌝ }
 {
@@ -178,7 +180,7 @@ pub fn with_client(control: Control, switches: Switches, client: Direction, owed
     }
 }
 
-// The control with what the server's octets, and the queue that settles, change.
+// The control with what the server's octets, and the queue that settles, change; field by field too.
 pub fn with_server(control: Control, server: Direction, owed: usize, opening: u32) -> Control
     ensures { λ r. ⌜ r ≡ withServer control server owed opening ⌝ }
 {
