@@ -25,13 +25,15 @@ extern "C" {
 
 /* The version of these functions and of the record. A record is for the version that wrote it. */
 #define FASHLEMOR_VERSION_MAJOR 0
-#define FASHLEMOR_VERSION_MINOR 3
+#define FASHLEMOR_VERSION_MINOR 4
 
 /* The octets of a record. It is an image with no pointer in it, laid out in docs/RECORD.md: it may
  * be copied, kept and moved between calls, and needs no alignment; at a multiple of 64 a call costs
  * least. Octets behind these are neither read nor written. A record that is shorter, or whose
- * octets are no record (all zero, for example), is refused with 4. */
-#define FASHLEMOR_RECORD 1096
+ * octets are no record (all zero, for example), is refused with 4. A host may read it: octets 40 to
+ * 43 tell how many octets of Telnet subnegotiations were removed from the client's, 44 to 47 from
+ * the server's, in 32 bits that wrap, low octet first. */
+#define FASHLEMOR_RECORD 1106
 
 /* The octets of a setup: the client's IPv6 address (16) and its mapped IPv4 address (4), both in
  * network order, and a sum of enum fashlemor_flag (1). */
@@ -39,10 +41,10 @@ extern "C" {
 
 /* With this much room in each buffer an arrival that is not refused and not stopped by 1 takes at
  * least one of its octets. */
-#define FASHLEMOR_ROOM 1280
+#define FASHLEMOR_ROOM 1791
 
 /* With this much room in the buffer that it goes to, an end never answers 2. */
-#define FASHLEMOR_END_ROOM 511
+#define FASHLEMOR_END_ROOM 1024
 
 /* The two directions: octets that the client sent, octets that the server sent. */
 enum fashlemor_direction {
@@ -86,9 +88,9 @@ uint8_t fashlemor_setup(uint8_t *record, size_t record_length,
                         const uint8_t *setup, size_t setup_length);
 
 /* Octets of a direction arrive. What goes to the server and to the client then stands at the front
- * of the two buffers, whose rest stays as it was. The client's octets may write to both sides, the
- * server's write to the client. Answers 0, 1, 2, 3, 4 or 6. counts is set with every answer. An
- * arrival of no octets answers 0 unless it is refused. */
+ * of the two buffers, whose rest stays as it was. The octets of either side may write to both:
+ * Telnet offers are answered to their sender. Answers 0, 1, 2, 3, 4 or 6. counts is set with every
+ * answer. An arrival of no octets answers 0 unless it is refused. */
 uint8_t fashlemor_arrive(uint8_t *record, size_t record_length,
                          uint64_t direction,
                          const uint8_t *octets, size_t octets_length,
@@ -96,9 +98,10 @@ uint8_t fashlemor_arrive(uint8_t *record, size_t record_length,
                          uint8_t *to_client, size_t to_client_length,
                          struct fashlemor_counts *counts);
 
-/* A direction ends: the held octets of its unfinished line are written to the other side. It is for
- * when nothing of that direction waits in the host. Answers 0, 2, 3, 4 or 6; with 2 nothing was
- * changed. counts is set with every answer. */
+/* A direction ends: the held octets of its unfinished line are written to the other side, and
+ * behind them what has come of a Telnet command, but for a subnegotiation. It is for when nothing
+ * of that direction waits in the host. Answers 0, 2, 3, 4 or 6; with 2 nothing was changed. counts
+ * is set with every answer. */
 uint8_t fashlemor_end(uint8_t *record, size_t record_length,
                       uint64_t direction,
                       uint8_t *to_server, size_t to_server_length,
@@ -108,7 +111,7 @@ uint8_t fashlemor_end(uint8_t *record, size_t record_length,
 /* Sets *offset to the octets written for a direction minus those taken from it, modulo 2^32: by how
  * much sequence numbers move on the way through. Answers 0, or 3 and sets nothing. The offset is
  * that of the record's counters, also where an arrival would be refused with 4. It is 0 where there
- * are fewer octets than a record, or one of the first six has a value that docs/RECORD.md does
+ * are fewer octets than a record, or one of the first eight has a value that docs/RECORD.md does
  * not list. */
 uint8_t fashlemor_offset(const uint8_t *record, size_t record_length,
                          uint64_t direction,

@@ -40,7 +40,7 @@
 #endif
 
 _Static_assert(WAITING > 0, "an arrival has octets");
-/* An end needs less: the 511 octets that may be held. */
+/* An end needs less: the 511 octets that may be held, each doubled, and two of a Telnet command. */
 _Static_assert(OUT >= FASHLEMOR_ROOM, "empty out buffers let every arrival go on");
 
 /* The client or the server of a session. */

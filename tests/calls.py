@@ -2,14 +2,14 @@
 
 usage: calls.py OURS REFERENCE [SEED [SCRIPTS]], or calls.py --stored, which writes the hand-made lists, with which crates/calls/stdin ends. Both
 programs read scripts (see crates/calls/src/main.rt) and write what each call did. Beside the hand-made lists, lists are made by seed: valid and
-odd lines, replies of several lines, cut anywhere, small rooms, wrong directions, calls after ends.
+odd lines, replies of several lines, Telnet commands, cut anywhere, small rooms, wrong directions, calls after ends.
 """
 import random
 import struct
 import subprocess
 import sys
 
-from definitions import CLIENT, MAPPED, line, passive, several_lines
+from definitions import CLIENT, MAPPED, line, passive, several_lines, telnet
 from usage import arguments
 
 LIMIT = 60000  # octets of scripts handed to the programs at once
@@ -41,7 +41,7 @@ def stops():
         yield script(7, greeting, arrival(0, b"EPS", room, room), end(0, room, room), end(0), end(0))
         for side in (0, 1):
             yield script(7, greeting, arrival(side, held), end(side, room, room), end(side), arrival(side, b"x"))
-    # a line's LF lets own answers go behind it: fifteen of 14 octets, then sixteen of 48 behind 512 octets, the most that an octet gives
+    # a line's LF lets own answers go behind it: fifteen of 14 octets, then sixteen of 48 behind 512 octets, the most where no octet is 255
     for room in (0, 511, 512, 721, 722):
         yield script(7, arrival(0, ALGS * 15), arrival(1, b"220 " + b"y" * 507 + b"\n", 4096, room), arrival(1, b"200 z\r\n"))
     for room in (0, 512, 1279, 1280, 1281):
@@ -70,8 +70,40 @@ def own_codes():
         yield script(7, greeting, arrival(1, opener), arrival(0, AUTH), arrival(1, b"214"), arrival(1, b" y\r\n2"))
 
 
+def telnet_commands():
+    """Telnet commands cut everywhere on both sides, their answers without room, 255s of data, and what an end or AUTH finds of a command."""
+    greeting = arrival(1, b"220 hi\r\n")
+    answered = b"\xff\xfb\x01\xff\xfd\x01\xff\xfc\x01\xff\xfe\x01"
+    for octets in (answered, b"a\xff\xffb\xff\xf4\r\n", b"N\xff\xfa\x18\x01\n\xff\xff\xff\xf0\xffOP\xff\xf0\r\n"):
+        for cut in range(len(octets) + 1):
+            for side in (0, 1):
+                yield script(7, greeting, arrival(side, octets[:cut]), arrival(side, octets[cut:]), end(side))
+    # an answer goes to its sender, a command on to the other side: three octets, two octets
+    for room in (0, 1, 2, 3):
+        for side in (0, 1):
+            there = (room, 0) if side == 0 else (0, room)
+            rest = b"\xf1\xff\xfb\x03"[0 if room < 2 else 3 :]
+            yield script(7, greeting, arrival(side, b"\xff\xf1\xff\xfb\x03", *there), arrival(side, rest, *there[::-1]), arrival(side, rest))
+    # held octets may all leave doubled, 511 of them, before a 512th, an LF, or at an end a 255 that is unfinished
+    for last, need in ((b"\xff\xff", 1024), (b"\n", 1023)):
+        for room in (need - 1, need):
+            yield script(7, greeting, arrival(0, b"\xff\xff" * 511), arrival(0, last, room, 0), arrival(0, last[-1:] + b"\xff\xff\n"))
+    for room in (1022, 1023):
+        yield script(7, greeting, arrival(1, b"\xff\xff" * 511 + b"\xff"), end(1, 0, room), end(1))
+    # the server's, behind the code that ends an open reply, and sixteen own answers of 48 behind their LF: 4 + 2 * 507 + 1 + 16 * 48 octets
+    for room in (1786, 1787):
+        reply = arrival(1, b"200-\r\n200 " + b"\xff\xff" * 507)
+        yield script(1, greeting, reply, arrival(0, b"ALGS\r\n" * 16), arrival(1, b"\n", 0, room), arrival(1, b"\n"))
+    # what is unfinished at an end or for AUTH: 255, 255 251, a subnegotiation, and 255 inside one
+    for begun in (b"\xff", b"\xff\xfb", b"\xff\xfe", b"\xff\xfa", b"\xff\xfa\x18\xff"):
+        for held in (b"", b"23"):
+            yield script(7, greeting, arrival(1, held + begun), end(1, 0, 1), end(1), arrival(1, b"\xf0"))
+            yield script(7, greeting, arrival(1, held + begun), arrival(0, AUTH), arrival(1, b"\xf0\xff\xfb\x01"), arrival(0, b"\xff\xfd\x01\n"))
+            yield script(7, greeting, arrival(0, NOOP + AUTH + held + begun), arrival(1, b"200 a\r\n"), end(0))
+
+
 def hand_made():
-    """Stops in the middle, sixteen owed, AUTH behind owed replies and with held octets, ends in every order, replies of several lines."""
+    """Stops in the middle, sixteen owed, AUTH behind owed replies and with held octets, ends in every order, replies of several lines, Telnet."""
     greeting = arrival(1, b"220 hi\r\n")
     yield script(7, greeting, arrival(0, EPSV), arrival(1, b"227 x (192,0,2,31,237,19)\r\n"))
     yield from stops()
@@ -85,6 +117,7 @@ def hand_made():
     for first, second in ((0, 1), (1, 0), (0, 0), (1, 1)):
         yield script(7, greeting, arrival(0, b"EP"), arrival(1, b"2"), end(first), end(second), arrival(0, b"SV\r\n"), arrival(1, b"00\r\n"), end(2))
     yield from own_codes()
+    yield from telnet_commands()
 
 
 def every_flag():
@@ -98,12 +131,15 @@ def made(r):
     calls = [arrival(side, octets) for side, octets in [(1, b"220 hi\r\n"), *passive(r)]] if r.random() < 0.2 else []
     for _ in range(r.randint(1, 14)):
         side = r.choice([0, 0, 0, 1, 1, 1, 1, r.randint(0, 255) if r.random() < 0.1 else 0])
-        rooms = [r.choice([0, 1, 5, 6, 40, 48, 511, 512, 1280, 4096, 4096, 4096]) for _ in range(2)]
+        rooms = [r.choice([0, 1, 2, 3, 5, 6, 40, 48, 511, 512, 1024, 1280, 1786, 1787, 4096, 4096, 4096, 4096, 4096]) for _ in range(2)]
         if r.random() < 0.08:
             calls.append(end(side, *rooms))
             continue
         several = side == 1 and r.random() < 0.25
         octets = b"".join(several_lines(r) if several else (line(r, side % 2) for _ in range(r.choice([0, 1, 1, 1, 2, 3, 9]))))
+        while r.random() < 0.3:
+            place = r.randint(0, len(octets))
+            octets = octets[:place] + telnet(r) + octets[place:]
         cut = r.randint(0, len(octets))
         for piece in [octets] if r.random() < 0.5 else [octets[:cut], octets[cut:]]:
             calls.append(arrival(side, piece, *rooms))

@@ -1,7 +1,9 @@
 """The readings of crates/rules, computed on many sessions, give what the reference gateway writes.
 
 Sessions are made by seed, replayed by the reference, and written down as cases of a crate of their own, in a folder outside the repository; the
-checker then computes both readings on each and compares. usage: definitions.py REPLAY [SEED [COUNT]]
+checker then computes the readings on each and compares: what goes to each side by the history, and what is spoken to the server by the client's
+text alone. The latter is what the reference writes to the server of the same session without Telnet commands: they are put into it afterwards.
+usage: definitions.py REPLAY [SEED [COUNT]]
 """
 import pathlib
 import random
@@ -26,19 +28,24 @@ COMMANDS = [
     b"EPRT |2|2001:db8:2::31|21|x", b"EPRT |2|2001:db8:2::32|21|", b"EPRT", b"EPRT x2x2001:db8:2::31x255x", b"EPRT |2|2001:db8:2::0.0.0.49|21|",
     b"EPRT |2|2001:db8:2:0:0:0:0:31|21|", b"EPRT |2|2001:db8:2:0:0:0:0::31|21|", b"EPRT \x7f2\x7f2001:db8:2::31\x7f21\x7f",
     b"ALGS STATUS64", b"ALGS ENABLE64", b"ALGS DISABLE64", b"ALGS", b"ALGS STATUS64 x", b"ALGSX STATUS64",
-    b"AUTH TLS", b"AUTH", b"AUTHX", b"NOOP", b"PASV", b"USER x", b"\xffEPSV", b"QUIT",
+    b"AUTH TLS", b"AUTH", b"AUTHX", b"NOOP", b"PASV", b"USER x", b"\xff\xffEPSV", b"CWD \xff\xff", b"QUIT",
 ]
 REPLIES = [
     b"220 hi", b"200 ok", b"227 x (192,0,2,31,237,19)", b"227 x (192,0,2,31,0,0)", b"227 =1,2,3,4,5,6", b"227 (1,2,3,4,5,6789)", b"227", b"227 ",
     b"227 1,2,3,4,5,6,7", b"227 a 4 (1,2,3,4,5,6)", b"227-x (1,2,3,4,5,6)", b"227 (0255,1,1,1,1,1)", b"227 (1,2,3,4,256,1)",
     b"227 001,02,3,4,019,000", b"229 x (|||5|)", b"150 wait", b"120", b"500 no", b"600 x", b"099 y", b"220x", b"220-multi", b" 220 x", b"", b"hello",
-    b"234 go", b"22", b"2200 x", b"620 x", b"099-y", b"100-x", b"214-x", b"214 end", b"227\t1,2,3,4,5,6",
+    b"234 go", b"22", b"2200 x", b"620 x", b"099-y", b"100-x", b"214-x", b"214 end", b"227\t1,2,3,4,5,6", b"220 \xff\xff",
 ]
 # codes that open a reply of several lines, and what may stand inside one beside its own code
 OPENING = [b"214", b"214", b"211", b"220", b"150", b"227"]
 INSIDE = [b"220 bar is the rated pressure", b"220-x", b"214-x", b"227 (1,2,3,4,5,6)", b"200", b"600 x", b" 214 x", b"hello", b""]
 # what may stand before the 227 that answers EPSV
 BEFORE_PASSIVE = [b"", b"hello\r\n", b"\r\n", b"620-x\n", b"214-x\r\n227 (1,2,3,4,5,6)\r\n214 y\r\n", b"150-x\r\n220 y\r\n150 z\r\n", b"227-x\r\n"]
+# options, octets that make a command of two, what stands inside subnegotiations, and commands of which an end may find so much
+OPTIONS = [1, 3, 24, 10, 13, 65, 240, 250, 255]
+COMMAND_OCTETS = [0, 10, 13, 65, 240, 241, 242, 244, 249]
+NEGOTIATED = [b"", b"\x18\x00VT100", b"\n", b"\xff\xff\xf0", b"\xff\xfb\x01", b"\xff\xfa", b"\xff\n"]
+UNFINISHED = [b"\xff", b"\xff\xfb", b"\xff\xfc", b"\xff\xfd", b"\xff\xfe", b"\xff\xfa\x01", b"\xff\xfa\xff"]
 END = {0: "end client", 1: "end server"}
 SAYS = {0: "clientSays", 1: "serverSays"}
 
@@ -74,6 +81,11 @@ def passive(r):
     return [(0, commands), (1, r.choice(BEFORE_PASSIVE) + b"227 x (192,0,2,31,237,19)\r\n")]
 
 
+def divides_pair(text):
+    """Whether a text ends in the middle of a doubled 255."""
+    return (len(text) - len(text.rstrip(b"\xff"))) % 2 == 1
+
+
 def session(r):
     """Entries of a session: a side with octets, or a side that ends."""
     entries = [(1, b"220 hi\r\n")] if r.random() < 0.75 else []
@@ -95,9 +107,42 @@ def session(r):
         entries.append((side, octets[:cut]))
         if r.random() < 0.3:
             entries.append((1 - side, line(r, 1 - side)))
-        if r.random() < 0.9:
+        if r.random() < 0.9 or divides_pair(octets[:cut]):
             entries.append((side, octets[cut:]))
     return r.choice(FLAGS), entries
+
+
+def telnet(r):
+    """A Telnet command, most often an offer."""
+    kind = r.random()
+    if kind < 0.5:
+        return bytes([255, r.choice([251, 253, 251, 253, 252, 254]), r.choice(OPTIONS)])
+    if kind < 0.75:
+        return bytes([255, r.choice(COMMAND_OCTETS)])
+    return b"\xff\xfa" + r.choice(NEGOTIATED) + b"\xff\xf0"
+
+
+def with_telnet(r, entries):
+    """The session with Telnet commands put between its octets, not inside a doubled 255; of the client's, only before AUTH, since what comes after
+    it is spoken whatever it is. Some ends find a command unfinished."""
+    said, out, ended = {0: b"", 1: b""}, [], set()
+    for side, octets in entries:
+        if octets is None:
+            tail = r.random() < 0.8 and side not in ended and not divides_pair(said[side])
+            if tail and (side == 1 or b"auth" not in said[0].lower()):
+                out.append((side, r.choice(UNFINISHED)))
+            ended.add(side)
+            out.append((side, None))
+            continue
+        mixed = b""
+        for i in range(len(octets) + 1):
+            free = not divides_pair(said[side]) and (side == 1 or b"auth" not in said[0].lower())
+            if free and r.random() < (0.25 if i == 0 else 0.02):
+                mixed += telnet(r)
+            mixed += octets[i : i + 1]
+            said[side] += octets[i : i + 1]
+        out.append((side, mixed))
+    return out
 
 
 def session_file(flags, entries):
@@ -149,7 +194,7 @@ def history(entries):
     return " ++ (".join(pieces or ["[]"]) + ")" * (len(pieces) - 1 if pieces else 0)
 
 
-PAGES = ["Octets", "Setup", "Lines", "Address", "Commands", "Replies", "Edition", "History"]
+PAGES = ["Octets", "Answers", "Setup", "Lines", "Telnet", "Address", "Commands", "Replies", "Edition", "History"]
 HEAD = """use mathlib.Core.Path.{_≡_, refl}
 use mathlib.Core.List.{List, [], _∷_, _++_, map}
 use Prim.Native.Nat.{ℕ}
@@ -158,7 +203,8 @@ use Rattle.rules.specs.Answers.{client, server}
 use Rattle.rules.specs.declared.Setup.{Setup}
 use Rattle.rules.specs.History.{Item, end, textOf, hasEnded}
 use Rattle.rules.specs.ToServer.{toServer, to-server-opened}
-use Rattle.rules.specs.ToClient.{toClient, to-client-opened}
+use Rattle.rules.specs.ToClient.{to-client-opened}
+use Rattle.rules.specs.Items.{allToServer, eachItem, toClient, items-opened}
 use Rattle.rules.specs.Exchanges.{clientSays, serverSays, allOn, exchanges-opened}
 """ + "".join(f"use Rattle.rules.specs.{page}.{{{page.lower()}-opened}}\n" for page in PAGES) + """
 pub record Case : Type 0 where
@@ -168,15 +214,21 @@ pub record Case : Type 0 where
 abbrev pub case : ℕ → List Item → Case
 case f h = record { flags = f; history = h }
 
-abbrev pub Sent : Type 0
-Sent = List ℕ × List ℕ
+pub record Sent : Type 0 where
+  pub speech : List ℕ
+  pub up : List ℕ
+  pub down : List ℕ
+
+abbrev pub sent : List ℕ → List ℕ → List ℕ → Sent
+sent said s c = record { speech = said; up = s; down = c }
 
 unfoldable pub read : Case → Sent
 read c =
     let su : Setup = record { client = allOn .client; mapped = allOn .mapped; flags = c .flags } in
-    (toServer su (textOf client (c .history)) (hasEnded client (c .history)), toClient su (c .history))
+    let spoken = toServer su (textOf client (c .history)) (hasEnded client (c .history)) in
+    sent spoken (allToServer (eachItem su (c .history))) (toClient su (c .history))
 """
-OPENED = " ".join(f"{page.lower()}-opened" for page in PAGES) + " to-server-opened to-client-opened exchanges-opened read"
+OPENED = " ".join(f"{page.lower()}-opened" for page in PAGES) + " to-server-opened to-client-opened items-opened exchanges-opened read"
 
 
 def crate(folder, cases):
@@ -189,7 +241,7 @@ def crate(folder, cases):
     for n, start in enumerate(range(0, len(cases), BATCH)):
         batch = cases[start : start + BATCH]
         given = "\n    ∷ ".join(f"case {flags} ({history(entries)})" for flags, entries, _ in batch)
-        wanted = "\n    ∷ ".join(f"({literal(sent[0])}, {literal(sent[1])})" for _, _, sent in batch)
+        wanted = "\n    ∷ ".join("sent " + " ".join(f"({literal(text)})" for text in sent) for _, _, sent in batch)
         text += f"\nunfoldable pub given{n} : List Case\ngiven{n} =\n    {given}\n    ∷ []\n"
         text += f"\nunfoldable pub wanted{n} : List Sent\nwanted{n} =\n    {wanted}\n    ∷ []\n"
         text += f"\npub agree{n} : map read given{n} ≡ wanted{n}\nunfolding {OPENED} given{n} wanted{n}\nagree{n} = refl\n"
@@ -214,17 +266,19 @@ def main():
     r = random.Random(seed)
     cases = []
     while len(cases) < count:
-        flags, entries = session(r)
+        flags, plain = session(r)
+        entries = with_telnet(r, plain) if r.random() < 0.6 else plain
         sent = replayed(replay, flags, entries)
+        spoken = sent and replayed(replay, flags, plain)
         if sent is not None:
-            cases.append((flags, entries, sent))
+            cases.append((flags, entries, (spoken[0], *sent)))
     result = computed(cases)
     if result.returncode:
         print("\n".join(x[:600] for x in result.stdout.splitlines() if "error" in x or "FAILED" in x))
         print(f"the definitions and the reference differ: seed {seed}, {count} sessions; agreeN is sessions 8N to 8N+7")
         return 1
     flags, entries, sent = cases[0]
-    if not computed([(flags, entries, (sent[0], sent[1] + b"x"))]).returncode:
+    if not computed([(flags, entries, (*sent[:2], sent[2] + b"x"))]).returncode:
         print("an octet too many was not noticed: this test shows nothing")
         return 1
     print(f"{count} sessions of seed {seed}: the definitions give what the reference writes, and an octet too many is noticed")

@@ -27,7 +27,7 @@ WARNED = ["-Wall", "-Wextra", "-Wconversion", "-Werror"]
 # how a build is made; the deadline is short, so that the case that waits for it is
 BUILDS = {
     "usual": ["-DLINGER_MS=200"],
-    "least": ["-DLINGER_MS=200", "-DSESSIONS=8", "-DWAITING=1", "-DOUT=1280"],
+    "least": ["-DLINGER_MS=200", "-DSESSIONS=8", "-DWAITING=1", "-DOUT=1791"],
 }
 PLACES = 8
 # how long anything may take before it counts as lost, in seconds

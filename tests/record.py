@@ -52,16 +52,20 @@ def faults():
     for (first, last, name), end in zip(table, ends):
         if (first, last) != (known[name], end - 1):
             yield f"docs/RECORD.md: {name} is at {known[name]} to {end - 1}, not {first} to {last}"
+    # An end lets go what is held, each octet doubled at most, and two of a Telnet command.
+    most_let_go = 2 * known["mostHeld"] + 2
     yield from told("docs/RECORD.md", r"as an image: ([\d,]+) octets", known["imageSize"])
     yield from told("docs/RECORD.md", r"over (\d+) held where", known["mostHeld"])
     yield from told("relay/fashlemor.h", r"^#define FASHLEMOR_RECORD (\d+)$", known["imageSize"])
     yield from told("relay/fashlemor.h", r"^#define FASHLEMOR_SETUP (\d+)$", known["setupSize"])
     yield from told("relay/fashlemor.h", r"^#define FASHLEMOR_ROOM (\d+)$", known["mostToClient"])
-    yield from told("relay/fashlemor.h", r"^#define FASHLEMOR_END_ROOM (\d+)$", known["mostHeld"])
+    yield from told("relay/fashlemor.h", r"^#define FASHLEMOR_END_ROOM (\d+)$", most_let_go)
+    yield from told("relay/fashlemor.h", r"octets (\d+) to\s", known["upRemovedAt"])
+    yield from told("relay/fashlemor.h", r"client's, (\d+) to \d+ from", known["downRemovedAt"])
     yield from told("relay/rust/src/lib.rs", r"^pub const RECORD: usize = ([\d_]+);$", known["imageSize"])
     yield from told("relay/rust/src/lib.rs", r"^pub const SETUP: usize = ([\d_]+);$", known["setupSize"])
     yield from told("relay/rust/src/lib.rs", r"^pub const ROOM: usize = ([\d_]+);$", known["mostToClient"])
-    yield from told("relay/rust/src/lib.rs", r"^pub const END_ROOM: usize = ([\d_]+);$", known["mostHeld"])
+    yield from told("relay/rust/src/lib.rs", r"^pub const END_ROOM: usize = ([\d_]+);$", most_let_go)
     major, minor = re.search(r'^version = "(\d+)\.(\d+)\.', (ROOT / "relay/rust/Cargo.toml").read_text(), re.M).groups()
     yield from told("relay/fashlemor.h", r"^#define FASHLEMOR_VERSION_MAJOR (\d+)$", int(major))
     yield from told("relay/fashlemor.h", r"^#define FASHLEMOR_VERSION_MINOR (\d+)$", int(minor))

@@ -7,6 +7,7 @@ use crate::session::{
     Call, Rooms, Session, Setup, What, CLIENT_ADDRESS, FULL_ROOM, LONGEST_BODY, MAPPED_ADDRESS,
     MOST_ENTRIES,
 };
+use crate::telnet;
 
 const CLIENT: u8 = 0;
 const SERVER: u8 = 1;
@@ -17,29 +18,44 @@ const ROOMS: [usize; 20] = [
     0, 0, 1, 2, 5, 6, 10, 40, 48, 100, 511, 512, 513, 600, 1279, 1280, 1281, 4096, FULL_ROOM,
     FULL_ROOM,
 ];
+/// About the octets of answers and commands, and the most that an octet or an end writes.
+const TELNET_ROOMS: [usize; 24] = [
+    0, 0, 1, 2, 3, 4, 5, 6, 10, 48, 100, 511, 512, 513, 514, 1022, 1023, 1024, 1786, 1787, 1790,
+    1791, FULL_ROOM, FULL_ROOM,
+];
+
+/// Ends that wait for the octets of a command, or for held ones that leave doubled.
+const END_ROOMS: [usize; 8] = [0, 0, 1, 1, 2, 3, 513, 1023];
 
 /// A session that a session file can hold: full rooms, at most 48 entries.
 pub fn session(seed: u64) -> Session {
-    let mut random = Random::new(seed);
-    let setup = setup(&mut random, 2);
-    let mut talk = Talk::begin(setup);
-    for _ in 0..random.between(2, 11) {
-        talk.step(&mut random);
-    }
-    let mut calls = cut(&mut random, LONGEST_BODY, talk.calls);
-    calls.truncate(MOST_ENTRIES - 1);
-    Session { setup, calls }
+    session_of(seed, holds_telnet(seed))
 }
 
 /// A list of calls with small rooms, unknown directions and calls after ends. Some that stop are
 /// called again with the rest, as a host does.
 pub fn list(seed: u64) -> Session {
+    list_of(seed, holds_telnet(seed))
+}
+
+/// Every other session holds Telnet material, and not only a stray 255 here and there.
+fn holds_telnet(seed: u64) -> bool {
+    seed % 2 == 1
+}
+
+fn session_of(seed: u64, telnet: bool) -> Session {
+    let mut random = Random::new(seed);
+    let setup = setup(&mut random, 2);
+    let talk = Talk::of(&mut random, setup, telnet);
+    let mut calls = cut(&mut random, LONGEST_BODY, talk.calls);
+    calls.truncate(MOST_ENTRIES - 1);
+    Session { setup, calls }
+}
+
+fn list_of(seed: u64, telnet: bool) -> Session {
     let mut random = Random::new(!seed);
     let setup = setup(&mut random, 8);
-    let mut talk = Talk::begin(setup);
-    for _ in 0..random.between(2, 11) {
-        talk.step(&mut random);
-    }
+    let mut talk = Talk::of(&mut random, setup, telnet);
     if random.percent(5) {
         talk.longest_line(&mut random);
     }
@@ -47,13 +63,20 @@ pub fn list(seed: u64) -> Session {
     let small = random.percent(80);
     for call in &mut calls {
         if small && random.percent(40) {
-            call.rooms = rooms(&mut random);
+            call.rooms = rooms(&mut random, telnet);
+        }
+        if telnet && call.what == What::End && random.percent(60) {
+            let room = random.pick(&END_ROOMS);
+            call.rooms = Rooms {
+                server: room,
+                client: room,
+            };
         }
         if random.percent(2) {
             call.direction = random.pick(&[2, 3, 128, 255]);
         }
     }
-    let calls = with_rests(&mut random, setup, calls);
+    let calls = with_rests(&mut random, setup, calls, telnet);
     Session { setup, calls }
 }
 
@@ -83,10 +106,11 @@ fn setup(random: &mut Random, wrong: usize) -> Setup {
     }
 }
 
-fn rooms(random: &mut Random) -> Rooms {
+fn rooms(random: &mut Random, telnet: bool) -> Rooms {
+    let rooms = if telnet { &TELNET_ROOMS[..] } else { &ROOMS };
     Rooms {
-        server: random.pick(&ROOMS),
-        client: random.pick(&ROOMS),
+        server: random.pick(rooms),
+        client: random.pick(rooms),
     }
 }
 
@@ -96,15 +120,24 @@ struct Talk {
     calls: Vec<Call>,
     /// All that the server has said.
     said: Vec<u8>,
+    telnet: bool,
 }
 
 impl Talk {
-    fn begin(setup: Setup) -> Talk {
-        Talk {
+    fn of(random: &mut Random, setup: Setup, telnet: bool) -> Talk {
+        let mut talk = Talk {
             client: setup.client,
             calls: Vec::new(),
             said: Vec::new(),
+            telnet,
+        };
+        for _ in 0..random.between(2, 11) {
+            talk.step(random);
         }
+        if telnet {
+            telnet::sprinkle(random, &mut talk.calls);
+        }
+        talk
     }
 
     fn says(&mut self, direction: u8, octets: &[u8]) {
@@ -125,6 +158,9 @@ impl Talk {
         }
         if random.percent(60) {
             self.end_reply(random);
+        }
+        if self.telnet && random.percent(40) {
+            return self.telnet_step(random);
         }
         match random.below(100) {
             0..=18 => self.exchange(random),
@@ -377,6 +413,164 @@ impl Talk {
         }
     }
 
+    fn telnet_step(&mut self, random: &mut Random) {
+        match random.below(100) {
+            0..=19 => self.offers(random),
+            20..=44 => self.unfinished_command(random),
+            45..=62 => self.doubled_line(random),
+            63..=75 => self.auth_inside_a_command(random),
+            76..=84 => self.end_inside_a_command(random),
+            85..=92 => self.inside_a_reply(random),
+            _ => self.number_1_inside_a_command(random),
+        }
+    }
+
+    /// One side after the other opens with offers.
+    fn offers(&mut self, random: &mut Random) {
+        for _ in 0..random.between(1, 4) {
+            let side = random.below(2) as u8;
+            let mut offers = telnet::offer(random);
+            for _ in 0..random.below(3) {
+                offers.extend(telnet::command(random));
+            }
+            if random.percent(40) {
+                offers.extend(random.pick(&[&b"NOOP\r\n"[..], b"2", b"200 ok\r\n"]));
+            }
+            self.says(side, &offers);
+        }
+    }
+
+    /// A command in two arrivals, with what the other side says between them, and lines before and
+    /// after it.
+    fn unfinished_command(&mut self, random: &mut Random) {
+        let side = random.below(2) as u8;
+        let (start, last) = telnet::unfinished(random);
+        if random.percent(40) {
+            let line = random.pick(&[&b"22"[..], b"EP", b"\xff\xff", b"NOOP\r\n", b"x\r"]);
+            self.says(side, line);
+        }
+        self.says(side, &start);
+        if random.percent(40) {
+            let other = telnet::command(random);
+            self.says(1 - side, &other);
+        }
+        if random.percent(30) {
+            self.says(1 - side, random.pick(&[&b"ALGS\n"[..], b"200 ok\n", b"2"]));
+        }
+        self.says(side, &last);
+        if random.percent(70) {
+            self.says(
+                side,
+                random.pick(&[&b"\r\n"[..], b"\n", b"SV\r\n", b"0 x\r\n"]),
+            );
+        }
+    }
+
+    fn doubled_line(&mut self, random: &mut Random) {
+        let side = random.below(2) as u8;
+        let start = match (side, random.below(3)) {
+            (CLIENT, 0) => lines::auth(random),
+            (CLIENT, 1) => b"auth \xff\xff".to_vec(),
+            (CLIENT, _) => random.pick(&[&b"EPSV "[..], b"", b"", b"ALGS "]).to_vec(),
+            (_, 0) => lines::ender(random, *b"214"),
+            (_, _) => random.pick(&[&b"200 "[..], b"", b"214-"]).to_vec(),
+        };
+        let start: Vec<u8> = start.into_iter().filter(|&octet| octet != b'\n').collect();
+        let line = telnet::long_line(random, &start);
+        self.says(side, &line);
+        if random.percent(50) {
+            let command = telnet::command(random);
+            self.says(side, &command);
+        }
+        if random.percent(50) {
+            self.says(side, b"\r\n");
+        }
+    }
+
+    /// The server inside a command, with nothing owed more often than not, so that AUTH reaches the
+    /// head there.
+    fn auth_inside_a_command(&mut self, random: &mut Random) {
+        if random.percent(80) {
+            self.says(SERVER, &b"200 ok\r\n".repeat(random.between(1, 16)));
+        }
+        match random.below(4) {
+            0 => {}
+            1 => {
+                let line = telnet::long_line(random, b"200 ");
+                let line = line.strip_suffix(b"\n").unwrap_or(&line);
+                self.says(SERVER, line);
+            }
+            _ => self.says(
+                SERVER,
+                random.pick(&[&b"2"[..], b"227 x", b"\xff\xff", b"214-"]),
+            ),
+        }
+        let (start, last) = telnet::unfinished(random);
+        self.says(SERVER, &start);
+        match random.below(4) {
+            0 => {
+                let line = telnet::long_line(random, b"AUTH ");
+                self.says(CLIENT, &line);
+            }
+            1 => self.says(CLIENT, b"A\xff\xf1UT\xff\xfb\x01H\n"),
+            _ => self.says(CLIENT, random.pick(&[&b"AUTH\n"[..], b"auth tls\r\n"])),
+        }
+        self.says(SERVER, &last);
+        for _ in 0..random.below(4) {
+            let side = random.below(2) as u8;
+            let raw = telnet::command(random);
+            self.says(side, &raw);
+        }
+    }
+
+    fn end_inside_a_command(&mut self, random: &mut Random) {
+        let side = random.below(2) as u8;
+        match random.below(4) {
+            0 => {}
+            1 => {
+                let line = telnet::long_line(random, b"");
+                let line = line.strip_suffix(b"\n").unwrap_or(&line);
+                self.says(side, line);
+            }
+            _ => self.says(side, random.pick(&[&b"2"[..], b"EPS", b"\xff\xff", b"\r"])),
+        }
+        let (start, _) = telnet::unfinished(random);
+        self.says(side, &start);
+        self.calls.push(Call::end(side));
+        for _ in 0..random.below(3) {
+            let other = telnet::command(random);
+            self.says(1 - side, &other);
+        }
+    }
+
+    /// Telnet waits for no reply to end, and own answers wait for no Telnet.
+    fn inside_a_reply(&mut self, random: &mut Random) {
+        self.says(SERVER, b"214-x\r\n");
+        self.says(CLIENT, &b"ALGS\n".repeat(random.between(1, 16)));
+        for _ in 0..random.between(1, 3) {
+            let side = random.below(2) as u8;
+            let command = telnet::command(random);
+            self.says(side, &command);
+        }
+        if random.percent(30) {
+            let line = telnet::long_line(random, b"214 ");
+            self.says(SERVER, &line);
+        }
+        self.says(SERVER, b"2\xff\xf114 x\r\n");
+    }
+
+    /// A client that owes nothing more may say no 255 either.
+    fn number_1_inside_a_command(&mut self, random: &mut Random) {
+        let (start, last) = telnet::unfinished(random);
+        let mut octets = b"NOOP\n".repeat(random.between(14, 17));
+        octets.extend(&start);
+        self.says(CLIENT, &octets);
+        self.says(CLIENT, &last);
+        self.says(SERVER, b"200 ok\n");
+        self.says(CLIENT, &[&start[..], &last].concat());
+        self.many_replies(random);
+    }
+
     /// Longer than an entry of a session file may be, and than the room for it.
     fn longest_line(&mut self, random: &mut Random) {
         let mut line = b"NOOP ".to_vec();
@@ -434,7 +628,7 @@ fn cut(random: &mut Random, longest: usize, calls: Vec<Call>) -> Vec<Call> {
 }
 
 /// After a call that stopped, its rest arrives again, more often than not.
-fn with_rests(random: &mut Random, setup: Setup, calls: Vec<Call>) -> Vec<Call> {
+fn with_rests(random: &mut Random, setup: Setup, calls: Vec<Call>, telnet: bool) -> Vec<Call> {
     let (mut reference, _) = Reference::setup(&setup);
     let mut all = Vec::new();
     for call in calls {
@@ -446,7 +640,7 @@ fn with_rests(random: &mut Random, setup: Setup, calls: Vec<Call>) -> Vec<Call> 
                 if let What::Arrival(octets) = &call.what {
                     rest = call.with_octets(&octets[seen.taken..]);
                 }
-                rest.rooms = rooms(random);
+                rest.rooms = rooms(random, telnet);
                 next = Some(rest);
             }
             all.push(call);
@@ -460,6 +654,8 @@ mod tests {
     use super::*;
     use crate::gateways::Seen;
     use crate::multi_line::{self, MultiLine};
+    use crate::telnet_cases;
+    use std::collections::BTreeSet;
 
     const MANY: u64 = 2000;
 
@@ -588,8 +784,53 @@ mod tests {
 
     #[test]
     fn sessions_are_files_and_their_own() {
-        assert!((1..=MANY).all(|seed| session(seed).file().is_some()));
-        assert_eq!(session(3), session(3));
-        assert_ne!(session(3), session(4));
+        for telnet in [false, true] {
+            let session = |seed| session_of(seed, telnet);
+            assert!((1..=MANY).all(|seed| session(seed).file().is_some()));
+            assert_eq!(session(3), session(3));
+            assert_ne!(session(3), session(4));
+        }
+    }
+
+    /// At least one in 500 comes to each of the cases.
+    fn telnet_at_times(all: &[BTreeSet<String>], cases: Vec<String>) {
+        let count = |case: &String| all.iter().filter(|met| met.contains(case)).count();
+        let counts: Vec<String> = cases
+            .iter()
+            .map(|case| format!("{case}: {} of {}", count(case), all.len()))
+            .collect();
+        println!("{}", counts.join("\n"));
+        let rare = cases.iter().filter(|case| count(case) * 500 < all.len());
+        let rare: Vec<&String> = rare.collect();
+        assert!(rare.is_empty(), "{rare:?}");
+    }
+
+    #[test]
+    fn sessions_come_to_all_of_telnet() {
+        let met = |seed| telnet_cases::met(&session_of(seed, true));
+        let all: Vec<_> = (1..=MANY).map(met).collect();
+        telnet_at_times(&all, telnet_cases::cases());
+    }
+
+    #[test]
+    fn lists_come_to_all_of_telnet() {
+        let met = |seed| telnet_cases::met(&list_of(seed, true));
+        let all: Vec<_> = (1..=MANY).map(met).collect();
+        telnet_at_times(&all, telnet_cases::cases());
+        telnet_at_times(&all, telnet_cases::cases_of_rooms());
+    }
+
+    /// With Telnet material they still come to answers of every number.
+    #[test]
+    fn telnet_leaves_all_answers() {
+        let seeds = 1..=MANY;
+        let all: Vec<Reached> = seeds
+            .map(|seed| Reached::of(&list_of(seed, true)))
+            .collect();
+        for answer in 0..7 {
+            often(&format!("answer {answer}"), &all, |one| one.answers[answer]);
+        }
+        at_times("a 229", &all, |one| one.extended_passive);
+        at_times("an own answer", &all, |one| one.own_answer);
     }
 }

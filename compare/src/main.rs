@@ -20,6 +20,9 @@ mod replay;
 mod samples;
 mod session;
 mod shrink;
+mod telnet;
+#[cfg(test)]
+mod telnet_cases;
 mod text;
 
 use std::process::ExitCode;

@@ -12,18 +12,22 @@ use crate::text::call_text;
 /// Where a record has its fields: the table in docs/RECORD.md.
 mod layout {
     pub const LIVE: usize = 0;
-    /// Four marks of 0 or 1, `live` first; two places of 0 to 3 follow.
+    /// Four marks of 0 or 1, `live` first; two places of 0 to 3 and two Telnet states of 0 to 7
+    /// follow.
     pub const MARKS: usize = 4;
     pub const CLIENT_PLACE: usize = 4;
     pub const SERVER_PLACE: usize = 5;
+    pub const TELNET: [usize; 2] = [6, 7];
     /// Numbers of four octets, low octet first.
-    pub const OPENING: usize = 6;
-    pub const OWED: usize = 10;
-    pub const CLIENT_HELD: usize = 14;
-    pub const SERVER_HELD: usize = 18;
+    pub const OPENING: usize = 8;
+    pub const OWED: usize = 12;
+    pub const CLIENT_HELD: usize = 16;
+    pub const SERVER_HELD: usize = 20;
     /// Taken and written of direction 0, then of direction 1.
-    pub const COUNTERS: [usize; 4] = [22, 26, 30, 34];
-    pub const KINDS: usize = 58;
+    pub const COUNTERS: [usize; 4] = [24, 28, 32, 36];
+    /// Octets of subnegotiations removed from each direction.
+    pub const REMOVED: [usize; 2] = [40, 44];
+    pub const KINDS: usize = 68;
 }
 
 const LAST_KIND: u8 = 8;
@@ -50,7 +54,7 @@ fn reached(random: &mut Random, session: &Session) -> Vec<u8> {
 
 /// Makes a record into one that number 4 refuses, and says what is wrong with it.
 fn forge(random: &mut Random, record: &mut Vec<u8>) -> &'static str {
-    match random.below(10) {
+    match random.below(11) {
         0 => {
             record[layout::LIVE] = 0;
             "not live"
@@ -64,6 +68,10 @@ fn forge(random: &mut Random, record: &mut Vec<u8>) -> &'static str {
             "a place over 3"
         }
         3 => {
+            record[random.pick(&layout::TELNET)] = random.pick(&[8, 9, 128, 255]);
+            "a Telnet state over 7"
+        }
+        4 => {
             put(
                 record,
                 layout::OWED,
@@ -71,9 +79,9 @@ fn forge(random: &mut Random, record: &mut Vec<u8>) -> &'static str {
             );
             "over 16 owed"
         }
-        4 | 5 => forge_kind(random, record),
-        6 | 7 => forge_held(random, record),
-        8 => {
+        5 | 6 => forge_kind(random, record),
+        7 | 8 => forge_held(random, record),
+        9 => {
             record.truncate(random.pick(&[0, 1, 7, 500, fashlemor::RECORD - 1]));
             "too short"
         }
@@ -227,7 +235,7 @@ impl Gateway for NearWrap {
         let (ours, seen) = Ours::setup(setup);
         let mut record = ours.record().to_vec();
         if seen.answer == raw::DONE {
-            for counter in layout::COUNTERS {
+            for counter in layout::COUNTERS.into_iter().chain(layout::REMOVED) {
                 let advanced = number(&record, counter).wrapping_sub(20);
                 put(&mut record, counter, advanced);
             }
@@ -297,11 +305,15 @@ mod tests {
     fn numbers_are_where_the_layout_has_them() {
         let mut record = [0; fashlemor::RECORD];
         raw::setup(&mut record, &[1; fashlemor::SETUP]);
-        let line = [&b"214-\n"[..], &[b'x'; 300]].concat();
+        let subnegotiation = [255, 250, 24, 255, 240];
+        let line = [&b"214-\n"[..], &[b'x'; 300], &subnegotiation, &[255, 253]].concat();
         let called = raw::arrive(&mut record, raw::SERVER, &line, &mut [], &mut [0; 5]);
         assert_eq!(called.answer, raw::DONE);
         let counters = layout::COUNTERS.map(|counter| number(&record, counter));
-        assert_eq!(counters, [0, 0, 305, 5]);
+        assert_eq!(counters, [0, 0, 312, 5]);
+        let removed = layout::REMOVED.map(|counter| number(&record, counter));
+        assert_eq!(removed, [0, 5]);
+        assert_eq!(layout::TELNET.map(|mark| record[mark]), [0, 4]);
         assert_eq!(number(&record, layout::SERVER_HELD), 300);
         assert_eq!(number(&record, layout::OPENING), 214);
         assert_eq!(number(&record, layout::OWED), 1);

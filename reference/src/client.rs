@@ -1,11 +1,12 @@
 //! The client's direction: its lines, judged by the switches and addresses.
 
 use crate::commands::{flowing_auth, judge, Addresses, Switches};
-use crate::lines::find_lf;
-use crate::output::{Outputs, Step};
+use crate::lines::find_stop;
+use crate::output::{Outputs, Step, Text};
 use crate::queue::Owed;
 use crate::server::Server;
-use crate::side::{Place, Reach, Side};
+use crate::side::{Place, Reach, Side, DOUBLED};
+use crate::telnet::{State, IAC};
 
 #[derive(Clone, Debug, PartialEq, Eq)]
 pub struct Client {
@@ -23,24 +24,41 @@ impl Client {
         }
     }
 
-    /// Takes octets up to the end of the line, the 512th of it, or the first that has to wait.
-    /// Numbers 1 and 6 stand before: the queue has room for a kind, and the side has not ended.
+    /// Takes octets up to the end of the line, the 512th of it, a 255, or the first that has to
+    /// wait. Numbers 1 and 6 stand before: the queue has room for a kind, and the side has not
+    /// ended.
     pub fn step(&mut self, octets: &[u8], server: &mut Server, outputs: &mut Outputs) -> Step {
-        match self.side.place {
-            Place::Holding => self.hold(octets, server, outputs),
-            Place::Flowing(_) => self.flow(octets, server, outputs),
-            Place::PassingAtOnce | Place::Ended => outputs.to_server.pass(octets),
+        match (self.side.place, self.side.telnet) {
+            (Place::Holding, State::Clear) => self.hold(octets, server, outputs),
+            (Place::Flowing(_), State::Clear) => self.flow(octets, server, outputs),
+            (Place::PassingAtOnce | Place::Ended, _) => outputs.to_server.pass(octets),
+            _ => self.command(octets, server, outputs),
+        }
+    }
+
+    /// The next octets of a Telnet command.
+    fn command(&mut self, octets: &[u8], server: &mut Server, outputs: &mut Outputs) -> Step {
+        let (on, back) = (&mut outputs.to_server, &mut outputs.to_client);
+        match self.side.command(octets, on, back) {
+            Some(step) => step,
+            None if self.side.holds_most() => self.let_go(DOUBLED, server, outputs),
+            None => self.side.take_doubled(&mut outputs.to_server),
         }
     }
 
     fn hold(&mut self, octets: &[u8], server: &mut Server, outputs: &mut Outputs) -> Step {
         match self.side.reach(octets) {
             Reach::Unfinished => {
-                self.side.hold(octets);
+                self.side.hold(Text::run(octets));
                 Step::took(octets.len())
             }
+            Reach::Command(place) => {
+                self.side.hold(Text::run(&octets[..place]));
+                self.side.telnet = State::Iac;
+                Step::took(place + 1)
+            }
             Reach::End(lf) => self.finish_line(&octets[..lf], server, outputs),
-            Reach::TooLong(count) => self.let_go(&octets[..count], server, outputs),
+            Reach::TooLong(count) => self.let_go(Text::run(&octets[..count]), server, outputs),
         }
     }
 
@@ -49,7 +67,7 @@ impl Client {
     /// recognised) puts one kind on the queue."
     fn finish_line(&mut self, last: &[u8], server: &mut Server, outputs: &mut Outputs) -> Step {
         let text = self.side.join(last);
-        let judged = judge(text, &self.addresses, self.switches);
+        let judged = judge(text.octets, &self.addresses, self.switches);
         if judged.given.length(text) > outputs.to_server.room()
             || server.due(judged.owed) > outputs.to_client.room()
         {
@@ -66,33 +84,40 @@ impl Client {
     /// The 512th octet, the last of `last`, is not LF. "AUTH, with or without argument, passes;
     /// from there every client octet passes at once. This holds for a flowing line too if its
     /// first five octets are AUTH and a space."
-    fn let_go(&mut self, last: &[u8], server: &mut Server, outputs: &mut Outputs) -> Step {
+    fn let_go(&mut self, last: Text, server: &mut Server, outputs: &mut Outputs) -> Step {
         let is_auth = flowing_auth(&self.side.start(last));
         let due = if is_auth { server.due(Owed::Auth) } else { 0 };
-        if self.side.held().len() + last.len() > outputs.to_server.room()
+        if self.side.held().length() + last.length() > outputs.to_server.room()
             || due > outputs.to_client.room()
         {
-            let before = last.len() - 1;
-            self.side.hold(&last[..before]);
-            return Step::waits_after(before);
+            return self.side.wait_before_last(last);
         }
         self.side.let_go(last, &mut outputs.to_server);
         if is_auth {
             self.owe(Owed::Auth, server, outputs);
         }
-        Step::took(last.len())
+        Step::took(last.octets.len())
     }
 
     /// "The rest of that line flows unchanged." Its LF finishes it, so it is owed a reply.
     fn flow(&mut self, octets: &[u8], server: &mut Server, outputs: &mut Outputs) -> Step {
-        let fitting = &octets[..octets.len().min(outputs.to_server.room())];
-        let Some(lf) = find_lf(fitting) else {
-            return outputs.to_server.pass(octets);
+        let to_server = &mut outputs.to_server;
+        let Some(stop) = find_stop(to_server.reach(octets)) else {
+            return to_server.pass(octets);
         };
-        outputs.to_server.write(&octets[..=lf]);
+        if octets[stop] == IAC {
+            to_server.write(&octets[..stop]);
+            self.side.telnet = State::Iac;
+            return Step::took(stop + 1);
+        }
+        if stop == to_server.room() {
+            to_server.write(&octets[..stop]);
+            return Step::waits_after(stop);
+        }
+        to_server.write(&octets[..=stop]);
         self.side.go_on(Place::Holding);
         self.owe(Owed::Plain, server, outputs);
-        Step::took(lf + 1)
+        Step::took(stop + 1)
     }
 
     /// After AUTH "every client octet passes at once".

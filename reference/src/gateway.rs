@@ -5,6 +5,7 @@ use crate::commands::{Addresses, Switches};
 use crate::output::{Output, Outputs};
 use crate::server::Server;
 use crate::side::{Place, Side};
+use crate::telnet::State;
 
 /// Direction of what the client sends.
 pub const CLIENT: u8 = 0;
@@ -72,7 +73,7 @@ impl Gateway {
         })
     }
 
-    /// Ends a direction: its held octets pass.
+    /// Ends a direction: its held octets pass, and a Telnet command that is unfinished.
     pub fn end(&mut self, direction: u8, to_server: &mut [u8], to_client: &mut [u8]) -> Outcome {
         self.call(direction, to_server, to_client, |session, outputs| {
             let fits = match direction {
@@ -84,10 +85,26 @@ impl Gateway {
     }
 
     /// Octets written minus octets taken, modulo 2^32: direction 0 is taken from the client and
-    /// written to the server, direction 1 the other way, own answers included.
+    /// written to the server, direction 1 the other way, own answers and Telnet answers included.
     pub fn offset(&self, direction: u8) -> u32 {
         let counter = self.counters.get(usize::from(direction));
         counter.map_or(0, Counter::offset)
+    }
+
+    /// Octets of the direction's subnegotiations that were removed, modulo 2^32.
+    pub fn removed(&self, direction: u8) -> u32 {
+        self.side(direction).map_or(0, Side::removed)
+    }
+
+    /// The Telnet state of the direction: clear where it has ended or passes at once.
+    pub fn telnet(&self, direction: u8) -> State {
+        self.side(direction)
+            .map_or(State::Clear, |side| side.telnet)
+    }
+
+    fn side(&self, direction: u8) -> Option<&Side> {
+        let session = self.session.as_ref()?;
+        (direction <= SERVER).then(|| session.side(direction))
     }
 
     /// Refuses a call, or lets it act on the session and counts what it took and wrote. "Order:
@@ -182,7 +199,7 @@ impl Session {
             let step = match direction {
                 CLIENT if self.client_waits() => return (QUEUE_FULL, taken),
                 CLIENT => self.client.step(rest, &mut self.server, outputs),
-                _ => self.server.step(rest, &mut outputs.to_client),
+                _ => self.server.step(rest, outputs),
             };
             taken += step.taken;
             if step.waits {

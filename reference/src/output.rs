@@ -1,6 +1,7 @@
 //! The lent buffers.
 
 use crate::made::MadeLine;
+use crate::telnet::IAC;
 
 /// A lent buffer, written from its front. Whoever writes has asked for the room before.
 pub struct Output<'buffer> {
@@ -27,6 +28,28 @@ impl<'buffer> Output<'buffer> {
         self.written += octets.len();
     }
 
+    /// Writes all or nothing, and says whether there was room.
+    pub fn write_if_it_fits(&mut self, octets: &[u8]) -> bool {
+        let fits = octets.len() <= self.room();
+        if fits {
+            self.write(octets);
+        }
+        fits
+    }
+
+    /// Writes octets of a line: "A doubled 255 is one data octet of a line and leaves doubled."
+    pub fn write_text(&mut self, text: Text) {
+        if text.doubled == 0 {
+            return self.write(text.octets);
+        }
+        for run in text.octets.split_inclusive(|&octet| octet == IAC) {
+            self.write(run);
+            if run.ends_with(&[IAC]) {
+                self.write(&[IAC]);
+            }
+        }
+    }
+
     pub fn write_number(&mut self, number: u16) {
         let places = &mut self.buffer[self.written..][..digits(number)];
         let mut rest = number;
@@ -45,14 +68,24 @@ impl<'buffer> Output<'buffer> {
         Step { taken, waits }
     }
 
+    /// The octets that there is room for, and the one behind them, which may need none.
+    pub fn reach<'octets>(&self, octets: &'octets [u8]) -> &'octets [u8] {
+        &octets[..octets.len().min(self.room() + 1)]
+    }
+
     /// Writes what a line gives, of which `text` stands before its LF.
-    pub fn write_line(&mut self, given: Given, text: &[u8]) {
+    pub fn write_line(&mut self, given: Given, text: Text) {
         match given {
-            Given::Line => {
+            Given::Line if text.doubled == 0 => {
+                let text = text.octets;
                 let line = &mut self.buffer[self.written..][..=text.len()];
                 line[..text.len()].copy_from_slice(text);
                 line[text.len()] = b'\n';
                 self.written += line.len();
+            }
+            Given::Line => {
+                self.write_text(text);
+                self.write(b"\n");
             }
             Given::Made(line) => line.write(self),
             Given::Nothing => {}
@@ -90,6 +123,26 @@ impl Step {
     }
 }
 
+/// Octets of a line, and how many of them are 255.
+#[derive(Clone, Copy, Debug)]
+pub struct Text<'line> {
+    pub octets: &'line [u8],
+    pub doubled: usize,
+}
+
+impl Text<'_> {
+    /// Octets none of which is 255.
+    pub fn run(octets: &[u8]) -> Text<'_> {
+        let doubled = 0;
+        Text { octets, doubled }
+    }
+
+    /// How many octets are written for it.
+    pub fn length(self) -> usize {
+        self.octets.len() + self.doubled
+    }
+}
+
 /// What a line judged whole gives.
 #[derive(Clone, Copy, Debug)]
 pub enum Given {
@@ -101,9 +154,9 @@ pub enum Given {
 
 impl Given {
     /// How many octets a line gives, of which `text` stands before its LF.
-    pub fn length(self, text: &[u8]) -> usize {
+    pub fn length(self, text: Text) -> usize {
         match self {
-            Given::Line => text.len() + 1,
+            Given::Line => text.length() + 1,
             Given::Made(line) => line.length(),
             Given::Nothing => 0,
         }

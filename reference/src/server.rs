@@ -1,10 +1,11 @@
 //! The server's direction: its lines, the replies owed, and what follows each octet.
 
-use crate::lines::{content, find_lf};
-use crate::output::{Given, Output, Step};
+use crate::lines::{content, find_stop};
+use crate::output::{Given, Output, Outputs, Step, Text};
 use crate::queue::{Owed, Queue};
 use crate::replies::{extended_passive, Code, Role};
-use crate::side::{Place, Reach, Side, Start};
+use crate::side::{Place, Reach, Side, Start, DOUBLED};
+use crate::telnet::{State, IAC};
 
 /// After each octet the queue is settled: no own answer stands at its head that may be written,
 /// and where AUTH does, the server's octets pass at once.
@@ -39,33 +40,51 @@ impl Server {
         self.owed.is_full()
     }
 
-    /// Takes octets up to the end of the line, the 512th of it, or the first that has to wait.
-    /// Number 6 stands before octets of a side that has ended.
-    pub fn step(&mut self, octets: &[u8], to_client: &mut Output) -> Step {
-        match self.side.place {
-            Place::Holding => self.hold(octets, to_client),
-            Place::Flowing(start) => self.flow(start, octets, to_client),
-            Place::PassingAtOnce | Place::Ended => to_client.pass(octets),
+    /// Takes octets up to the end of the line, the 512th of it, a 255, or the first that has to
+    /// wait. Number 6 stands before octets of a side that has ended.
+    pub fn step(&mut self, octets: &[u8], outputs: &mut Outputs) -> Step {
+        let to_client = &mut outputs.to_client;
+        match (self.side.place, self.side.telnet) {
+            (Place::Holding, State::Clear) => self.hold(octets, to_client),
+            (Place::Flowing(start), State::Clear) => self.flow(start, octets, to_client),
+            (Place::PassingAtOnce | Place::Ended, _) => to_client.pass(octets),
+            _ => self.command(octets, outputs),
+        }
+    }
+
+    /// The next octets of a Telnet command: the server is the sender that gets the answers.
+    fn command(&mut self, octets: &[u8], outputs: &mut Outputs) -> Step {
+        let (on, back) = (&mut outputs.to_client, &mut outputs.to_server);
+        match self.side.command(octets, on, back) {
+            Some(step) => step,
+            None if self.side.holds_most() => self.let_go(DOUBLED, &mut outputs.to_client),
+            None => self.side.take_doubled(&mut outputs.to_client),
+        }
+    }
+
+    fn hold(&mut self, octets: &[u8], to_client: &mut Output) -> Step {
+        match self.side.reach(octets) {
+            Reach::Unfinished => {
+                self.side.hold(Text::run(octets));
+                Step::took(octets.len())
+            }
+            Reach::Command(place) => {
+                self.side.hold(Text::run(&octets[..place]));
+                self.side.telnet = State::Iac;
+                Step::took(place + 1)
+            }
+            Reach::End(lf) => self.finish_line(&octets[..lf], to_client),
+            Reach::TooLong(count) => self.let_go(Text::run(&octets[..count]), to_client),
         }
     }
 
     /// "When the 512th octet is not LF, the held octets are let go unchanged."
-    fn hold(&mut self, octets: &[u8], to_client: &mut Output) -> Step {
-        match self.side.reach(octets) {
-            Reach::Unfinished => {
-                self.side.hold(octets);
-                Step::took(octets.len())
-            }
-            Reach::End(lf) => self.finish_line(&octets[..lf], to_client),
-            Reach::TooLong(count) if to_client.room() < self.side.held().len() + count => {
-                self.side.hold(&octets[..count - 1]);
-                Step::waits_after(count - 1)
-            }
-            Reach::TooLong(count) => {
-                self.side.let_go(&octets[..count], to_client);
-                Step::took(count)
-            }
+    fn let_go(&mut self, last: Text, to_client: &mut Output) -> Step {
+        if self.side.held().length() + last.length() > to_client.room() {
+            return self.side.wait_before_last(last);
         }
+        self.side.let_go(last, to_client);
+        Step::took(last.octets.len())
     }
 
     /// The LF of a line judged whole, of which `last` are the last octets before it. A 227
@@ -73,7 +92,7 @@ impl Server {
     /// none is unfinished. "All other server lines pass."
     fn finish_line(&mut self, last: &[u8], to_client: &mut Output) -> Step {
         let text = self.side.join(last);
-        let content = content(text);
+        let content = content(text.octets);
         let end = line_end(&self.owed, Role::of(content, self.unfinished));
         let made = match end.removed {
             Some(Owed::TranslatedEpsv) if self.unfinished.is_none() => extended_passive(content),
@@ -91,18 +110,22 @@ impl Server {
 
     /// "The rest of that line flows unchanged", and it "counts when its LF passes".
     fn flow(&mut self, start: Start, octets: &[u8], to_client: &mut Output) -> Step {
-        let fitting = &octets[..octets.len().min(to_client.room())];
-        let Some(lf) = find_lf(fitting) else {
+        let Some(stop) = find_stop(to_client.reach(octets)) else {
             return to_client.pass(octets);
         };
-        let end = line_end(&self.owed, Role::of(&start, self.unfinished));
-        if lf + 1 + end.answers > to_client.room() {
-            to_client.write(&octets[..lf]);
-            return Step::waits_after(lf);
+        if octets[stop] == IAC {
+            to_client.write(&octets[..stop]);
+            self.side.telnet = State::Iac;
+            return Step::took(stop + 1);
         }
-        to_client.write(&octets[..=lf]);
+        let end = line_end(&self.owed, Role::of(&start, self.unfinished));
+        if stop + 1 + end.answers > to_client.room() {
+            to_client.write(&octets[..stop]);
+            return Step::waits_after(stop);
+        }
+        to_client.write(&octets[..=stop]);
         self.pass_line_end(end, to_client);
-        Step::took(lf + 1)
+        Step::took(stop + 1)
     }
 
     fn pass_line_end(&mut self, end: LineEnd, to_client: &mut Output) {
@@ -120,7 +143,7 @@ impl Server {
         match kind {
             _ if !self.owed.is_empty() => 0,
             Owed::Own(answer) if !self.answers_wait() => answer.line().len(),
-            Owed::Auth => self.side.held().len(),
+            Owed::Auth => self.side.left(),
             _ => 0,
         }
     }
@@ -133,7 +156,7 @@ impl Server {
 
     /// "After each octet, the gateway's own answers at the head of the queue are written in
     /// order." "When AUTH reaches the head, held server octets pass and all later ones pass at
-    /// once": this waits for no reply to end. AUTH stays at the head, and nothing comes after it.
+    /// once", and between them an unfinished command: this waits for no reply to end. AUTH stays at the head, and nothing comes after it.
     fn settle(&mut self, to_client: &mut Output) {
         loop {
             match self.owed.head() {
@@ -142,8 +165,7 @@ impl Server {
                     self.owed.pop();
                 }
                 Some(Owed::Auth) if self.side.place != Place::Ended => {
-                    to_client.write(self.side.held());
-                    return self.side.go_on(Place::PassingAtOnce);
+                    return self.side.leave(Place::PassingAtOnce, to_client);
                 }
                 _ => return,
             }

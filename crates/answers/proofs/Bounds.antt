@@ -1,13 +1,14 @@
--- One octet writes at most 512 octets to the server and 1,280 to the client, and so a call goes on where there is room.
+-- One octet writes at most 1,024 octets to the server and 1,791 to the client, and so a call goes on where there is room.
 use mathlib.Core.Path.{_≡_, refl, sym, ap, _∙_}
-use mathlib.Core.Bool.{Bool, true, false, true≢false}
-use mathlib.Core.List.{List, [], _∷_}
+use mathlib.Core.Bool.{Bool, true, false, _||_, not, true≢false}
+use mathlib.Core.List.{List, [], _∷_, _++_}
 use mathlib.Core.Logic.{_≢_}
-use mathlib.Core.Option.{Option, none}
+use mathlib.Core.Option.{Option, none, some}
 use Prim.Native.Nat.{ℕ, zero, suc, _+_, _*_, _≤_, _<_}
 use native.Mathlib.Omega.{arith}
 use lib.Dec.{eqb}
-use lib.ListN.{length, take, length-append, length-drop}
+use lib.ListN.{length, take, drop, length-append, length-drop}
+use lib.Seq.{drop-drop}
 use borrow.Author.Tests.{ltb-true, le-leb}
 use Rattle.rules.specs.Octets.{lf, choose, every}
 use Rattle.rules.specs.Answers.{
@@ -22,13 +23,15 @@ use Rattle.rules.specs.Answers.{
   mostToServer,
   mostToClient,
   longestAnswer,
+  mostAnswers,
 }
-use Rattle.rules.specs.Lines.{judged, content}
+use Rattle.rules.specs.Lines.{mostHeld, judged, passed, content}
 use Rattle.rules.specs.Commands.{command}
-use Rattle.rules.specs.Replies.{replyLine, passiveReply, headAnswers}
+use Rattle.rules.specs.Replies.{isOpen, replyLine, passiveReply, headAnswers, authAtHead}
 use Rattle.rules.specs.Demand3.{isRefusal}
 use Rattle.rules.specs.declared.Answer.{Answer}
 use Rattle.rules.specs.declared.Switches.{Switches}
+use Rattle.rules.specs.declared.Does.{Does}
 use Rattle.rules.specs.declared.Kind.{Kind}
 use Rattle.rules.specs.declared.Command.{Command}
 use Rattle.rules.specs.declared.ReplyLine.{ReplyLine}
@@ -39,7 +42,8 @@ use Rattle.gives.specs.declared.Gives.{Gives}
 use Rattle.queue.specs.declared.Owes.{Owes}
 use Rattle.upstream.specs.declared.ClientEffect.{ClientEffect}
 use Rattle.downstream.specs.declared.ServerEffect.{ServerEffect}
-use Rattle.queue.specs.Kinds.{queueOf, headOf}
+use Rattle.queue.specs.Kinds.{queueOf, headOf, answersAtHead}
+use Rattle.queue.specs.Heads.{answersFrom, authAfter}
 use Rattle.gives.specs.Text.{givesText}
 use Rattle.upstream.specs.Upstream.{commandEffect, judgedEffect, joinEffect, placeEffect, clientEffect}
 use Rattle.downstream.specs.Downstream.{passiveEffect, kindEffect, headEffect, lineGives, wholeLine, flowingLine, replyOctet, replyEffect, serverEffect}
@@ -48,14 +52,16 @@ use Rattle.queue.proofs.Answers.{length-queue}
 use Rattle.rules.specs.declared.Fixed.{Fixed}
 use Rattle.rules.specs.Setup.{ipv4Width}
 use Rattle.records.specs.declared.Session.{Session}
-use Rattle.steps.specs.Steps.{State, Step, owedThen, owedFrom, answersText, isAuthNext, settledText, clientState, clientEffectIn, clientStep, serverState, serverEffectIn, serverStep, octetStep}
-use Rattle.records.specs.Sound.{refusalOf, blocked}
-use Rattle.places.specs.Places.{isPassing}
+use Rattle.steps.specs.Steps.{State, Step, heldOf, letGoOf, leaving, answersText, isAuthNext, settledText, clientState, clientEffectIn, clientStep, serverState, serverEffectIn, serverStep, lineStep, telnetText, telnetStep, isClient, stepBy, layered, layerRead, octetStep}
+use Rattle.records.specs.declared.Control.{Control}
+use Rattle.records.specs.Controls.{layerIn, unfinishedOf}
+use Rattle.records.specs.Sound.{refusalOf, directionOf, blocked, Counted}
+use Rattle.places.specs.Places.{isPassing, isInLines, isFlowingOrEnded}
 use Rattle.steps.specs.Takes.{Took, unlessStopped, stopOf, takes}
 use Rattle.session.specs.Calls.{stateOf, refused, unlessRefused, outcome, arrived}
 use Rattle.session.specs.Bounds.{Shaped, WritesAtMost, OctetBound, Progress}
 use Rattle.steps.proofs.Turns.{place-owed}
-use Rattle.answers.proofs.Lengths.{isOctet, judged-most, judged-held, port-line, pasv-line, passive-line, head-answers}
+use Rattle.answers.proofs.Lengths.{isOctet, judged-most, judged-held, port-line, pasv-line, passive-line, head-answers, answers-auth, passed-within, lf-single, telnet-most, unfinished-most}
 use Rattle.answers.specs.Table.{Sound}
 use Rattle.answers.proofs.Refusals.{Refusal, unknown, bad, over, accepted, sound-words, refusal-of}
 use Rattle.answers.proofs.Ports.{
@@ -78,19 +84,20 @@ take-most zero l = omega arith
 take-most (suc n) [] = omega arith
 take-most (suc n) (x ∷ l) = omega (arith, take-most n l)
 
-record Short (n : ℕ) (l : List ℕ) : Type 0 where
-  most : length l ≤ n
+-- ---- what an octet gives on its own side: no more than the held octets and itself, or a line of the gateway's
 
--- ---- what an octet gives on its own side
-
-module _ (f : Fixed) (size : length (f .mapped) ≡ ipv4Width) (octets : every isOctet (f .mapped) ≡ true) (h : List ℕ) (x : ℕ) where
-  -- at most one line is given
+module _ (f : Fixed) (size : length (f .mapped) ≡ ipv4Width) (octets : every isOctet (f .mapped) ≡ true) (h : List ℕ) (x limit : ℕ)
+    (held : length (passed h) + length (passed (x ∷ [])) ≤ limit) (wide : judged ≤ limit) where
   record Line (g : Gives) : Type 0 where
-    most : length (givesText f h x g) ≤ judged
+    most : length (givesText f h x g) ≤ limit
 
   octet-line : Line Gives.Octet
   unfolding givesText
   octet-line = record { most = omega (arith, judged-most) }
+
+  flowing-line : Line Gives.LineOctet
+  unfolding givesText
+  flowing-line = record { most = omega arith }
 
   nothing-line : Line Gives.Nothing
   unfolding givesText
@@ -100,157 +107,222 @@ module _ (f : Fixed) (size : length (f .mapped) ≡ ipv4Width) (octets : every i
   unfolding givesText
   kept-line = record { most = omega arith }
 
-  held-line : length h < judged → Line Gives.HeldAndOctet
+  held-line : Line Gives.HeldAndOctet
   unfolding givesText
-  held-line less = record { most = simp length-append (omega arith) }
+  held-line = record { most = rw (length-append (passed h) (passed (x ∷ []))) held }
 
-  command-line : length h < judged → (k : Command) → SmallCommand k → Line (commandEffect k)
+  command-line : (k : Command) → SmallCommand k → Line (commandEffect k)
   unfolding commandEffect givesText
-  command-line less k passes = held-line less
-  command-line less k passive = record { most = pasv-line }
-  command-line less k (port p small) = record { most = port-line (f .mapped) p size octets small }
-  command-line less k (answered a) = nothing-line
-  command-line less k auth = held-line less
+  command-line k passes = held-line
+  command-line k passive = record { most = omega (arith, pasv-line) }
+  command-line k (port p small) = record { most = omega (arith, port-line (f .mapped) p size octets small) }
+  command-line k (answered a) = nothing-line
+  command-line k auth = held-line
 
   -- ---- a client octet
 
   record ClientLine (e : ClientEffect) : Type 0 where
     line : Line (e .gives)
 
-  join-line : length h < judged → (sw : Switches) (held : ℕ) → ClientLine (joinEffect sw held h)
+  join-line : (sw : Switches) (n : ℕ) → ClientLine (joinEffect sw n h)
   unfolding joinEffect
-  join-line less sw held =
-      either ClientLine _ _ _ (record { line = kept-line }) (either ClientLine _ _ _ (record { line = held-line less }) (record { line = held-line less }))
+  join-line sw n =
+      either ClientLine _ _ _ (record { line = kept-line }) (either ClientLine _ _ _ (record { line = held-line }) (record { line = held-line }))
 
-  place-line : length h < judged → (sw : Switches) (p : Place) (held : ℕ) (b : Bool)
-      → ClientLine (placeEffect f sw p held h b)
+  place-line : (sw : Switches) (p : Place) (n : ℕ) (b : Bool) → ClientLine (placeEffect f sw p n h b)
   unfolding placeEffect judgedEffect
-  place-line less sw Place.Holding held true =
-      record { line = command-line less (command f sw h) (command-small f sw h) }
-  place-line less sw Place.Holding held false = join-line less sw held
-  place-line less sw Place.Flowing held true = record { line = octet-line }
-  place-line less sw Place.Flowing held false = record { line = octet-line }
-  place-line less sw Place.Passing held b = record { line = octet-line }
-  place-line less sw Place.Ended held b = record { line = nothing-line }
+  place-line sw Place.Holding n true = record { line = command-line (command f sw h) (command-small f sw h) }
+  place-line sw Place.Holding n false = join-line sw n
+  place-line sw Place.Flowing n true = record { line = flowing-line }
+  place-line sw Place.Flowing n false = record { line = flowing-line }
+  place-line sw Place.Passing n b = record { line = octet-line }
+  place-line sw Place.Ended n b = record { line = nothing-line }
 
   -- ---- a server line judged whole
 
-  passive-reply-line : length h < judged → (r : PassiveReply) → SmallReply r → Line (passiveEffect r)
+  passive-reply-line : (r : PassiveReply) → SmallReply r → Line (passiveEffect r)
   unfolding passiveEffect givesText
-  passive-reply-line less r (port p small) = record { most = passive-line p small }
-  passive-reply-line less r unreadable = held-line less
+  passive-reply-line r (port p small) = record { most = omega (arith, passive-line p small) }
+  passive-reply-line r unreadable = held-line
 
-  kind-line : length h < judged → (k : Kind) (c : List ℕ) → Line (kindEffect f k c)
+  kind-line : (k : Kind) (c : List ℕ) → Line (kindEffect f k c)
   unfolding kindEffect
-  kind-line less Kind.Plain c = held-line less
-  kind-line less Kind.TranslatedEpsv c = passive-reply-line less (passiveReply c) (reply-small c)
-  kind-line less (Kind.Own a) c = held-line less
-  kind-line less Kind.Auth c = held-line less
+  kind-line Kind.Plain c = held-line
+  kind-line Kind.TranslatedEpsv c = passive-reply-line (passiveReply c) (reply-small c)
+  kind-line (Kind.Own a) c = held-line
+  kind-line Kind.Auth c = held-line
 
-  head-line : length h < judged → (o : Owes) (c : List ℕ) → Line (headEffect f o c)
+  head-line : (o : Owes) (c : List ℕ) → Line (headEffect f o c)
   unfolding headEffect
-  head-line less Owes.Nothing c = held-line less
-  head-line less (Owes.One k) c = kind-line less k c
+  head-line Owes.Nothing c = held-line
+  head-line (Owes.One k) c = kind-line k c
 
-  whole-line : length h < judged → (r : ReplyLine) (u : ℕ) (o : Owes) (c : List ℕ) → Line (lineGives f r u o c)
+  whole-line : (r : ReplyLine) (u : ℕ) (o : Owes) (c : List ℕ) → Line (lineGives f r u o c)
   unfolding lineGives
-  whole-line less (ReplyLine.Opens code) u o c = held-line less
-  whole-line less ReplyLine.Belongs u o c = held-line less
-  whole-line less ReplyLine.StandsAlone u o c = held-line less
-  whole-line less ReplyLine.Preliminary u o c = held-line less
-  whole-line less ReplyLine.Final u o c = either Line _ _ _ (held-line less) (head-line less o c)
+  whole-line (ReplyLine.Opens code) u o c = held-line
+  whole-line ReplyLine.Belongs u o c = held-line
+  whole-line ReplyLine.StandsAlone u o c = held-line
+  whole-line ReplyLine.Preliminary u o c = held-line
+  whole-line ReplyLine.Final u o c = either Line _ _ _ held-line (head-line o c)
 
-  -- what a server octet gives and what is held after it are together at most one line
+-- ---- a server octet
+
+-- the most that goes ahead of own answers: a line of 511 doubled octets, and its LF
+abbrev mostAhead : ℕ
+mostAhead = 2 * mostHeld + 1
+
+module _ (f : Fixed) (size : length (f .mapped) ≡ ipv4Width) (octets : every isOctet (f .mapped) ≡ true) (h : List ℕ) (x : ℕ) (less : length h ≤ mostHeld) where
+  -- a line that goes while own answers may follow it, and a line with what is held after it and a Telnet command
   record ServerLine (e : ServerEffect) : Type 0 where
-    together : length (givesText f h x (e .gives)) + e .direction .held ≤ judged
+    ahead : isFlowingOrEnded (e .direction .place) ≡ false → length (givesText f h x (e .gives)) ≤ mostAhead
+    together : length (givesText f h x (e .gives)) + (2 * e .direction .held + 2) ≤ mostAhead + longestAnswer
 
-  next-line : length h < judged → (u : ℕ) (held : ℕ) → ServerLine (replyOctet u held)
-  unfolding replyOctet givesText
-  next-line less u held =
-      by-test ServerLine _ _ _ (λ e. record { together = omega (arith, ltb-true (held + 1) judged e) })
-      (λ e. record { together = omega (arith, held-line less .most) })
+  one-most : length (passed (x ∷ [])) ≤ 2
+  one-most = passed-within (x ∷ []) {n = 1} (omega arith)
 
-  reply-line : length h < judged → (u : ℕ) (o : Owes) (p : Place) (held : ℕ) (line : List ℕ) (b : Bool) → ServerLine (replyEffect f u o p held line b)
-  unfolding replyEffect wholeLine flowingLine
-  reply-line less u o Place.Holding held line true =
-      let c : List ℕ = content (take held line) in record { together = omega (arith, whole-line less (replyLine u c) u o c .most) }
-  reply-line less u o Place.Holding held line false = next-line less u held
-  reply-line less u o Place.Flowing held line true = record { together = omega (arith, octet-line .most) }
-  reply-line less u o Place.Flowing held line false = record { together = omega (arith, octet-line .most) }
-  reply-line less u o Place.Passing held line b = record { together = omega (arith, octet-line .most) }
-  reply-line less u o Place.Ended held line b = record { together = omega (arith, nothing-line .most) }
+  doubled-most : length (passed h) + length (passed (x ∷ [])) ≤ 2 * judged
+  doubled-most = omega (arith, judged-held, passed-within h less, one-most)
+
+  next-line : (u n : ℕ) → ServerLine (replyOctet u n)
+  unfolding replyOctet givesText isFlowingOrEnded
+  next-line u n =
+      by-test ServerLine _ _ _ (λ e. record { ahead = λ _. omega arith; together = omega (arith, judged-held, ltb-true (n + 1) judged e) })
+      (λ e. record { ahead = λ p. absurd (true≢false p); together = rw (length-append (passed h) (passed (x ∷ []))) (omega (arith, judged-held, doubled-most)) })
+
+  -- the LF of a line that is held
+  end-line : eqb x lf ≡ true → (u : ℕ) (o : Owes) (c : List ℕ) → ServerLine (wholeLine f u o c)
+  unfolding wholeLine
+  end-line e u o c =
+      let most = whole-line f size octets h x mostAhead (omega (arith, passed-within h less, lf-single x e)) (omega (arith, judged-held)) (replyLine u c) u o c .most in
+      record { ahead = λ _. most; together = omega arith }
+
+  reply-line : (u : ℕ) (o : Owes) (p : Place) (n : ℕ) (line : List ℕ) (b : Bool) → eqb x lf ≡ b → ServerLine (replyEffect f u o p n line b)
+  unfolding replyEffect flowingLine givesText
+  reply-line u o Place.Holding n line true e = end-line e u o (content (take n line))
+  reply-line u o Place.Holding n line false e = next-line u n
+  reply-line u o Place.Flowing n line true e = record { ahead = λ _. omega (arith, one-most); together = omega (arith, one-most) }
+  reply-line u o Place.Flowing n line false e = record { ahead = λ _. omega (arith, one-most); together = omega (arith, one-most) }
+  reply-line u o Place.Passing n line b e = record { ahead = λ _. omega arith; together = omega arith }
+  reply-line u o Place.Ended n line b e = record { ahead = λ _. omega arith; together = omega arith }
 
 -- ---- own answers and the AUTH step
 
--- the longest answer for each kind owed, and the octets held
-settled-most : (s : State) (n : ℕ) → length (settledText s n) ≤ s .control .owed * longestAnswer + s .control .server .held
-unfolding settledText answersText
-settled-most s n =
-    let queue : List Kind = queueOf (s .kinds) (s .control .owed) in
-    let held : List ℕ = take (s .control .server .held) (s .reply) in
-    let answers : Short (s .control .owed * longestAnswer) (choose (blocked (s .control)) [] (headAnswers (owedFrom s n))) =
-    either (Short _) _ _ _ (record { most = omega arith })
-    (record { most = omega (arith, head-answers (owedFrom s n), length-drop n queue, length-queue (s .kinds) (s .control .owed)) }) in
-    let rest : Short (s .control .server .held) (choose (isAuthNext s n) held []) =
-    either (Short _) _ _ _ (record { most = take-most (s .control .server .held) (s .reply) }) (record { most = omega arith }) in
-    simp length-append (omega (arith, answers .most, rest .most))
+held-most : (d : Side) (s : State) → length (heldOf d s) ≤ directionOf d (s .control) .held
+held-most client s = take-most (s .control .client .held) (s .command)
+held-most server s = take-most (s .control .server .held) (s .reply)
 
--- ---- what number 4 lets through
+-- what AUTH lets go, or an end: the held octets doubled, and two of a Telnet command
+pub let-go-most : (d : Side) (s : State) → length (letGoOf d s) ≤ 2 * directionOf d (s .control) .held + 2
+let-go-most d s =
+    let c : Control = s .control in
+    let held = passed-within (heldOf d s) (held-most d s) in
+    let command = unfinished-most (isInLines (directionOf d c .place)) (layerIn d c .telnet) in
+    omega (arith, length-append (passed (heldOf d s)) (unfinishedOf d c))
 
--- at most 16 are owed, and each direction holds less than a line
-pub record Small (s : State) : Type 0 where
-  pub owed : s .control .owed ≤ mostOwed
-  pub client : s .control .client .held < judged
-  pub server : s .control .server .held < judged
+-- own answers wait where a server line flows, or its direction has ended
+answers-free : (c : Control) → blocked c ≡ false → isFlowingOrEnded (c .server .place) ≡ false
+unfolding blocked
+answers-free c e = by-code (isOpen (c .opening)) e
+  where
+    by-code : (b : Bool) → b || isFlowingOrEnded (c .server .place) ≡ false → isFlowingOrEnded (c .server .place) ≡ false
+    by-code true e = absurd (true≢false e)
+    by-code false e = e
 
-pub small : (s : Session) → Sound s → Small (stateOf s)
-small s w =
-    record {
-      owed = w .owed;
-      client = omega (arith, w .client .most, judged-held);
-      server = omega (arith, w .server .most, judged-held);
-    }
+-- n octets, own answers, and what AUTH lets go if it is first
+behind-most : (n limit : ℕ) (answers go : List ℕ) (first : Bool) → (first ≡ true → n + length answers + length go ≤ limit) → n + length answers ≤ limit
+    → n + length (answers ++ choose first go []) ≤ limit
+behind-most n limit answers go first goes stays =
+    by-test (λ (l : List ℕ). n + length (answers ++ l) ≤ limit) first go [] (λ e. omega (arith, length-append answers go, goes e))
+    (λ e. omega (arith, length-append {A = ℕ} answers []))
 
--- ---- one octet
+module _ (s : State) (removed : ℕ) where
+  abbrev queue : List Kind
+  queue = queueOf (s .kinds) (s .control .owed)
 
-module _ (f : Fixed) (size : length (f .mapped) ≡ ipv4Width) (octets : every isOctet (f .mapped) ≡ true) (s : State) (x : ℕ) (sm : Small s) where
-  client-most : isQueueFull client (isPassing (s .control .client .place)) (s .control .owed) ≡ false → WritesAtMost (clientStep f s x)
-  unfolding clientStep clientState clientEffectIn clientEffect mostToServer mostToClient
-  client-most notFull =
+  abbrev left : List Kind
+  left = drop removed queue
+
+  -- Sixteen answers, or fifteen and what AUTH lets go, behind n octets: few enough where no answer has to wait, and few enough
+  -- with what AUTH lets go.
+  settled-most : (n : ℕ) → s .control .owed ≤ mostOwed → (blocked (s .control) ≡ false → n ≤ mostAhead)
+      → n + length (letGoOf server s) ≤ mostAhead + longestAnswer → n + length (settledText s removed) ≤ mostToClient
+  unfolding settledText answersText isAuthNext leaving mostToClient choose
+  settled-most n few ahead together = by-blocked (blocked (s .control)) refl
+    where
+      short : length left ≤ mostOwed
+      short = omega (arith, length-drop removed queue, length-queue (s .kinds) (s .control .owed))
+
+      by-blocked : (b : Bool) → blocked (s .control) ≡ b
+          → n + length (answersFrom b queue removed ++ choose (authAfter b queue removed) (letGoOf server s) []) ≤ mostAhead + mostAnswers
+      by-blocked true e = behind-most n _ [] (letGoOf server s) (authAfter true queue removed) (λ a. omega arith) (omega arith)
+      by-blocked false e =
+          behind-most n _ (headAnswers left) (letGoOf server s) (authAfter false queue removed)
+          (λ a. omega (arith, short, answers-auth left (ap authAtHead (drop-drop (answersAtHead left) removed queue) ∙ a)))
+          (omega (arith, short, ahead e, head-answers left))
+
+-- ---- one octet of a record that number 4 lets through
+
+pub counted : (s : Session) → Sound s → Counted (s .control)
+counted s w = record { owed = w .owed; command = w .client .most; reply = w .server .most }
+
+module _ (f : Fixed) (size : length (f .mapped) ≡ ipv4Width) (octets : every isOctet (f .mapped) ≡ true) (s : State) (few : Counted (s .control)) where
+  client-most : (x : ℕ) → isQueueFull client (isPassing (s .control .client .place)) (s .control .owed) ≡ false → WritesAtMost (clientStep f s x)
+  unfolding clientStep clientState clientEffectIn clientEffect mostToServer
+  client-most x notFull =
       let d : Direction = s .control .client in
       let h : List ℕ = take (d .held) (s .command) in
       let e : ClientEffect = clientEffectIn f s x in
-      let less : length h < judged = omega (arith, take-most (d .held) (s .command), sm .client) in
-      let given : ClientLine f size octets h x e =
-      place-line f size octets h x less (s .control .switches) (d .place) (d .held) (eqb x lf) in
-      let owed : owedThen (s .control .owed) (e .owes) ≤ mostOwed =
-      place-owed f (s .control .switches) (d .place) (d .held) h (eqb x lf) (s .control .owed) (sm .owed) notFull in
+      let less : length h ≤ mostHeld = omega (arith, take-most (d .held) (s .command), few .command) in
+      let given = place-line f size octets h x (2 * judged) (doubled-most f size octets h x less) (omega arith) (s .control .switches) (d .place) (d .held) (eqb x lf) in
+      let owed = place-owed f (s .control .switches) (d .place) (d .held) h (eqb x lf) (s .control .owed) (few .owed) notFull in
       record {
         toServer = given .line .most;
-        toClient = omega (arith, settled-most (clientState s x e) 0, owed, sm .server);
+        toClient = omega (arith, settled-most (clientState s x e) 0 0 owed (λ _. omega arith) (omega (arith, let-go-most server (clientState s x e), few .reply)));
       }
 
-  server-most : WritesAtMost (serverStep f s x)
-  unfolding serverStep serverState serverEffectIn serverEffect mostToServer mostToClient
-  server-most =
+  server-most : (x : ℕ) → WritesAtMost (serverStep f s x)
+  unfolding serverStep serverState serverEffectIn serverEffect
+  server-most x =
       let d : Direction = s .control .server in
       let h : List ℕ = take (d .held) (s .reply) in
       let e : ServerEffect = serverEffectIn f s x in
-      let less : length h < judged = omega (arith, take-most (d .held) (s .reply), sm .server) in
-      let given : ServerLine f size octets h x e =
-      reply-line f size octets h x less (s .control .opening) (headOf (s .kinds) (s .control .owed)) (d .place) (d .held) (s .reply) (eqb x lf) in
+      let t : State = serverState s x e in
+      let less : length h ≤ mostHeld = omega (arith, take-most (d .held) (s .reply), few .reply) in
+      let given = reply-line f size octets h x less (s .control .opening) (headOf (s .kinds) (s .control .owed)) (d .place) (d .held) (s .reply) (eqb x lf) refl in
       record {
         toServer = omega arith;
-        toClient = simp length-append (omega (arith, given .together, settled-most (serverState s x e) (e .removes), sm .owed));
+        toClient = rw (length-append (givesText f h x (e .gives)) (settledText t (e .removes)))
+            (settled-most t (e .removes) (length (givesText f h x (e .gives))) (few .owed) (λ b. given .ahead (answers-free (t .control) b))
+            (omega (arith, given .together, let-go-most server t)));
       }
 
+  -- one that makes none of a line
+  telnet-step-most : (fromClient : Bool) (does : Does) → WritesAtMost (telnetStep fromClient s does)
+  unfolding telnetStep mostToServer
+  telnet-step-most fromClient does =
+      let back = telnet-most (not fromClient) does in
+      record {
+        toServer = omega (arith, judged-most, telnet-most fromClient does);
+        toClient = rw (length-append (telnetText (not fromClient) does) (settledText s 0))
+            (settled-most s 0 (length (telnetText (not fromClient) does)) (few .owed) (λ _. omega arith) (omega (arith, let-go-most server s, few .reply)));
+      }
+
+  step-most : (d : Side) (does : Does) (o : Option ℕ) → isQueueFull d (isPassing (s .control .client .place)) (s .control .owed) ≡ false → WritesAtMost (stepBy f d s does o)
+  unfolding stepBy lineStep
+  step-most d does none notFull = telnet-step-most (isClient d) does
+  step-most client does (some y) notFull = client-most y notFull
+  step-most server does (some y) notFull = server-most y
+
+module _ (f : Fixed) (size : length (f .mapped) ≡ ipv4Width) (octets : every isOctet (f .mapped) ≡ true) (s : State) (x : ℕ) (few : Counted (s .control)) where
   pub octet-most : (d : Side) → isQueueFull d (isPassing (s .control .client .place)) (s .control .owed) ≡ false → WritesAtMost (octetStep f d s x)
   unfolding octetStep
-  octet-most client notFull = client-most notFull
-  octet-most server notFull = server-most
+  octet-most client notFull =
+      step-most f size octets (layered client s (layerRead client s x .layer)) (record { owed = few .owed; command = few .command; reply = few .reply }) client _ _ notFull
+  octet-most server notFull =
+      step-most f size octets (layered server s (layerRead server s x .layer)) (record { owed = few .owed; command = few .command; reply = few .reply }) server _ _ notFull
 
 pub octet-bound : OctetBound
-octet-bound s d x shape e notFull = octet-most (s .fixed) (shape .mapped) (shape .octets) (stateOf s) x (small s (sound-words s .0 e)) d notFull
+octet-bound s d x shape e notFull = octet-most (s .fixed) (shape .mapped) (shape .octets) (stateOf s) x (counted s (sound-words s .0 e)) d notFull
 
 -- ---- a call goes on
 
@@ -259,7 +331,7 @@ goes-on : (d : Side) (s : State) (t : Step) (rs rc : ℕ) → isQueueFull d (isP
     → WritesAtMost t → mostToClient ≤ rs → mostToClient ≤ rc → stopOf d s t rs rc ≡ none
 unfolding stopOf stop fits choose mostToServer mostToClient
 goes-on d s t rs rc notFull w hs hc =
-    rw (notFull, le-leb (length (t .toServer)) rs (omega (arith, w .toServer)), le-leb (length (t .toClient)) rc (omega (arith, w .toClient)))
+    rw (notFull, le-leb (length (t .toServer)) rs (omega (arith, judged-held, w .toServer)), le-leb (length (t .toClient)) rc (omega (arith, w .toClient)))
 
 takes-one : (f : Fixed) (d : Side) (s : State) (x : ℕ) (xs : List ℕ) (rs rc : ℕ) → stopOf d s (octetStep f d s x) rs rc ≡ none
     → 1 ≤ takes f d s (x ∷ xs) rs rc .taken

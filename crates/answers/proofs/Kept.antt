@@ -3,14 +3,17 @@ use mathlib.Core.Path.{_≡_, refl, sym, ap, _∙_, subst}
 use mathlib.Core.Bool.{Bool, true, false}
 use mathlib.Core.List.{List, [], _∷_}
 use mathlib.Core.Logic.{inl, inr}
-use mathlib.Core.Option.{Option}
+use mathlib.Core.Option.{Option, none, some}
 use Prim.Native.Nat.{ℕ, zero, suc, _+_, _-_, _^_, _≤_, _<_}
 use native.Mathlib.Omega.{arith}
 use lib.Dec.{eqb, leb, lit≤}
 use lib.ListN.{length, take, getD, length-replicate, getD-replicate}
 use borrow.Author.Tests.{ltb-true}
 use Rattle.rules.specs.Octets.{lf, every}
-use Rattle.rules.specs.Answers.{Side, client, server, sideOf, mostOwed, isQueueFull}
+use Rattle.rules.specs.Answers.{Side, client, server, sideOf, mostOwed, isQueueFull, wrapped}
+use Rattle.rules.specs.Telnet.{telnetOctet, removedAfter, cleared, layerOctet}
+use Rattle.rules.specs.declared.Layer.{Layer}
+use Rattle.rules.specs.declared.Does.{Does}
 use Rattle.rules.specs.Lines.{mostHeld, judged, content}
 use Rattle.rules.specs.declared.Switches.{Switches}
 use Rattle.rules.specs.declared.Answer.{Answer}
@@ -29,9 +32,9 @@ use Rattle.rules.specs.declared.Fixed.{Fixed}
 use Rattle.rules.specs.declared.Setup.{Setup}
 use Rattle.rules.specs.Setup.{ipv4Width}
 use Rattle.records.specs.declared.Session.{Session}
-use Rattle.steps.specs.Steps.{State, owedThen, leaving, isAuthNext, settledState, clientState, clientEffectIn, clientStep, serverState, serverEffectIn, serverStep, octetStep}
+use Rattle.steps.specs.Steps.{State, owedThen, leaving, isAuthNext, settledControl, settledState, clientState, clientEffectIn, clientStep, serverState, serverEffectIn, serverStep, lineStep, telnetStep, stepBy, layered, layerRead, octetStep}
 use Rattle.places.specs.Places.{isHolding, isPassing, directionFromNow}
-use Rattle.records.specs.Sound.{refusalOf}
+use Rattle.records.specs.Sound.{refusalOf, Counted}
 use Rattle.steps.specs.Settled.{Settled}
 use Rattle.session.specs.Calls.{stateOf, sessionAfter, Outcome, refused, unlessRefused, outcome, arrived, endStep, endOutcome, endCalled, freshSession}
 use Rattle.session.specs.Bounds.{Shaped, WritesAtMost}
@@ -54,7 +57,7 @@ use Rattle.answers.specs.Table.{
   One,
 }
 use Rattle.answers.proofs.Lengths.{judged-held}
-use Rattle.answers.proofs.Bounds.{Small, octet-most}
+use Rattle.answers.proofs.Bounds.{octet-most}
 use Rattle.answers.proofs.Refusals.{
   not-holding,
   listed-each,
@@ -131,11 +134,45 @@ pub record Kept (s : State) : Type 0 where
   pub command : length (s .command) ≡ mostHeld
   pub reply : length (s .reply) ≡ mostHeld
   pub opening : s .control .opening < 2 ^ 32
+  pub removedUp : s .control .up .removed < 2 ^ 32
+  pub removedDown : s .control .down .removed < 2 ^ 32
+
+-- a state with other directions and layers
+kept-with : (s : State) → Kept s → {d e : Direction} (up down : Layer) → SoundDirection d → SoundDirection e
+    → up .removed < 2 ^ 32 → down .removed < 2 ^ 32
+    → let c = s .control in
+    Kept
+    (record {
+      control = record {
+        switches = c .switches;
+        client = d;
+        server = e;
+        owed = c .owed;
+        opening = c .opening;
+        up = up;
+        down = down;
+      };
+      command = s .command;
+      reply = s .reply;
+      kinds = s .kinds;
+    })
+kept-with s h up down first second removedUp removedDown =
+    record {
+      queue = h .queue;
+      client = first;
+      server = second;
+      command = h .command;
+      reply = h .reply;
+      opening = h .opening;
+      removedUp = removedUp;
+      removedDown = removedDown;
+    }
 
 settled-kept : (s : State) (n : ℕ) → Kept s → Kept (settledState s n)
-unfolding settledState
+unfolding settledState settledControl
 settled-kept s n h =
     let d : Direction = s .control .server in
+    let down : Layer = s .control .down in
     record {
       queue = listed-leave (h .queue) (leaving s n);
       client = h .client;
@@ -143,6 +180,8 @@ settled-kept s n h =
       command = h .command;
       reply = h .reply;
       opening = h .opening;
+      removedUp = h .removedUp;
+      removedDown = either (λ (l : Layer). l .removed < 2 ^ 32) (isAuthNext s n) (cleared down) down (h .removedDown) (h .removedDown);
     }
 
 -- the octet's own effect
@@ -161,6 +200,8 @@ client-turned f s x h notFull =
       command = length-stored (s .command) (d .held) x (e .gives) ∙ h .command;
       reply = h .reply;
       opening = h .opening;
+      removedUp = h .removedUp;
+      removedDown = h .removedDown;
     }
 
 server-turned : (f : Fixed) (s : State) (x : ℕ) → Kept s → Kept (serverState s x (serverEffectIn f s x))
@@ -176,25 +217,68 @@ server-turned f s x h =
       command = h .command;
       reply = length-stored (s .reply) (d .held) x (e .gives) ∙ h .reply;
       opening = sound .opening;
+      removedUp = h .removedUp;
+      removedDown = h .removedDown;
     }
+
+-- ---- the same through the Telnet layer
+
+-- a count of removed octets stays one of 32 bits
+removed-low : (r : ℕ) (does : Does) → r < 2 ^ 32 → removedAfter r does < 2 ^ 32
+unfolding wrapped
+removed-low r (Does.Data y) h = h
+removed-low r Does.Nothing h = h
+removed-low r (Does.AnswersDont x) h = h
+removed-low r (Does.AnswersWont x) h = h
+removed-low r (Does.Passes x) h = h
+removed-low r (Does.Removes n) h = omega arith
+
+layer-low : (inLines : Bool) (l : Layer) (x : ℕ) → l .removed < 2 ^ 32 → layerOctet inLines l x .layer .removed < 2 ^ 32
+unfolding layerOctet
+layer-low true l x h = removed-low (l .removed) (telnetOctet (l .telnet) x .does) h
+layer-low false l x h = h
+
+-- a state that came of settling one that is kept
+record Turned (s : State) : Type 0 where
+  from : State
+  removes : ℕ
+  same : s ≡ settledState from removes
+  kept : Kept from
+
+step-turned : (f : Fixed) (d : Side) (s : State) (does : Does) (o : Option ℕ) → Kept s
+    → isQueueFull d (isPassing (s .control .client .place)) (s .control .owed) ≡ false → Turned (stepBy f d s does o .state)
+unfolding stepBy lineStep clientStep serverStep telnetStep
+step-turned f d s does none h notFull = record { from = s; removes = 0; same = refl; kept = h }
+step-turned f client s does (some y) h notFull =
+    record { from = clientState s y (clientEffectIn f s y); removes = 0; same = refl; kept = client-turned f s y h notFull }
+step-turned f server s does (some y) h notFull =
+    record { from = serverState s y (serverEffectIn f s y); removes = serverEffectIn f s y .removes; same = refl; kept = server-turned f s y h }
+
+layered-kept : (d : Side) (s : State) (l : Layer) → l .removed < 2 ^ 32 → Kept s → Kept (layered d s l)
+layered-kept client s l low h = kept-with s h l (s .control .down) (h .client) (h .server) low (h .removedDown)
+layered-kept server s l low h = kept-with s h (s .control .up) l (h .client) (h .server) (h .removedUp) low
+
+octet-turned : (f : Fixed) (d : Side) (s : State) (x : ℕ) → Kept s → isQueueFull d (isPassing (s .control .client .place)) (s .control .owed) ≡ false
+    → Turned (octetStep f d s x .state)
+unfolding octetStep
+octet-turned f client s x h notFull =
+    step-turned f client (layered client s (layerRead client s x .layer)) _ _ (layered-kept client s _ (layer-low _ (s .control .up) x (h .removedUp)) h) notFull
+octet-turned f server s x h notFull =
+    step-turned f server (layered server s (layerRead server s x .layer)) _ _ (layered-kept server s _ (layer-low _ (s .control .down) x (h .removedDown)) h) notFull
 
 octet-kept : (f : Fixed) (d : Side) (s : State) (x : ℕ) → Kept s → isQueueFull d (isPassing (s .control .client .place)) (s .control .owed) ≡ false
     → Kept (octetStep f d s x .state)
-unfolding octetStep clientStep serverStep
-octet-kept f client s x h notFull = settled-kept (clientState s x (clientEffectIn f s x)) 0 (client-turned f s x h notFull)
-octet-kept f server s x h notFull = settled-kept (serverState s x (serverEffectIn f s x)) (serverEffectIn f s x .removes) (server-turned f s x h)
+octet-kept f d s x h notFull = let t = octet-turned f d s x h notFull in subst Kept (sym (t .same)) (settled-kept (t .from) (t .removes) (t .kept))
 
 -- and leaves nothing to settle
-kept-settles : (s : State) (n : ℕ) → Kept s → Settled (settledState s n)
-kept-settles s n h =
-    settled-then s n (omega (arith, h .queue .size, h .queue .most))
-    (λ e. h .server .none (not-holding (s .control .server .place) (ap isHolding e)))
-
 octet-settles : (f : Fixed) (d : Side) (s : State) (x : ℕ) → Kept s → isQueueFull d (isPassing (s .control .client .place)) (s .control .owed) ≡ false
     → Settled (octetStep f d s x .state)
-unfolding octetStep clientStep serverStep
-octet-settles f client s x h notFull = kept-settles (clientState s x (clientEffectIn f s x)) 0 (client-turned f s x h notFull)
-octet-settles f server s x h notFull = kept-settles (serverState s x (serverEffectIn f s x)) (serverEffectIn f s x .removes) (server-turned f s x h)
+octet-settles f d s x h notFull =
+    let t = octet-turned f d s x h notFull in
+    let u = t .from .control .server in
+    subst Settled (sym (t .same))
+    (settled-then (t .from) (t .removes) (omega (arith, t .kept .queue .size, t .kept .queue .most))
+    (λ e. t .kept .server .none (not-holding (u .place) (ap isHolding e))))
 
 -- ---- every octet of an arrival
 
@@ -220,15 +304,12 @@ kept s shape w =
       command = shape .command;
       reply = shape .reply;
       opening = shape .opening;
+      removedUp = shape .removedUp;
+      removedDown = shape .removedDown;
     }
 
-small : (s : State) → Kept s → Small s
-small s h =
-    record {
-      owed = h .queue .most;
-      client = omega (arith, h .client .most, judged-held);
-      server = omega (arith, h .server .most, judged-held);
-    }
+countable : (s : State) → Kept s → Counted (s .control)
+countable s h = record { owed = h .queue .most; command = h .client .most; reply = h .server .most }
 
 module _ (c : Situation) (octets : List ℕ) (shape : Shaped (c .session)) where
   kept-before : (k : ℕ) → k ≤ length octets → Takes c octets k → Kept (before c octets k .state)
@@ -236,11 +317,11 @@ module _ (c : Situation) (octets : List ℕ) (shape : Shaped (c .session)) where
       steps-kept (c .session .fixed) (sideOf (c .direction)) (stateOf (c .session)) octets k h
       (kept (c .session) shape (t .accepted .sound)) (λ j l. queue-open c octets j (t .each j l .notFull))
 
-  -- "One octet writes at most 512 octets to the server and at most 1,280 to the client": each one that an arrival comes to and 1 does not stop
+  -- "One octet writes at most .. octets to the server and at most .. to the client": each one that an arrival comes to and 1 does not stop
   pub each-octet : (k : ℕ) → k < length octets → Takes c octets k → (Full c octets k → ⊥) → WritesAtMost (nextStep c octets k)
   each-octet k h t n =
       octet-most (c .session .fixed) (shape .mapped) (shape .octets) (before c octets k .state) (getD octets k 0)
-      (small (before c octets k .state) (kept-before k (omega arith) t)) (sideOf (c .direction)) (queue-open c octets k n)
+      (countable (before c octets k .state) (kept-before k (omega arith) t)) (sideOf (c .direction)) (queue-open c octets k n)
 
   -- after each of them nothing is left to settle, so that a run can begin behind it
   pub each-settled : (k : ℕ) → k < length octets → Takes c octets k → (Full c octets k → ⊥) → Settled (nextStep c octets k .state)
@@ -258,7 +339,7 @@ session-kept : (s : Session) (d : Side) (k a b : ℕ) (t : State) → Shaped s �
     → Shaped (sessionAfter s d k a b t) × Sound (sessionAfter s d k a b t)
 unfolding sessionAfter
 session-kept s d k a b t shape w h = (
-  record { mapped = shape .mapped; octets = shape .octets; command = h .command; reply = h .reply; kinds = h .queue .size; opening = h .opening },
+  record { mapped = shape .mapped; octets = shape .octets; command = h .command; reply = h .reply; kinds = h .queue .size; opening = h .opening; removedUp = h .removedUp; removedDown = h .removedDown },
   record {
     live = w .live;
     owed = h .queue .most;
@@ -270,8 +351,8 @@ session-kept s d k a b t shape w h = (
 
 end-kept : (d : Side) (s : State) → Kept s → Kept (endStep d s .state)
 unfolding endStep
-end-kept client s h = record { queue = h .queue; client = none-held _; server = h .server; command = h .command; reply = h .reply; opening = h .opening }
-end-kept server s h = record { queue = h .queue; client = h .client; server = none-held _; command = h .command; reply = h .reply; opening = h .opening }
+end-kept client s h = kept-with s h (cleared (s .control .up)) (s .control .down) (none-held _) (h .server) (h .removedUp) (h .removedDown)
+end-kept server s h = kept-with s h (s .control .up) (cleared (s .control .down)) (h .client) (none-held _) (h .removedUp) (h .removedDown)
 
 module _ (c : Situation) (shape : Shaped (c .session)) (w : Sound (c .session)) where
   abbrev Stays : Outcome → Type 0
@@ -323,6 +404,8 @@ fresh-kept su size octets = (
     reply = length-replicate {A = ℕ} mostHeld 0;
     kinds = length-replicate {A = ℕ} mostOwed 0;
     opening = omega arith;
+    removedUp = omega arith;
+    removedDown = omega arith;
   },
   record {
     live = refl;

@@ -13,12 +13,14 @@ use Rattle.rules.specs.Octets.{choose, every}
 use Rattle.rules.specs.Answers.{sideOf, mostOwed, soundHeld, soundRecord}
 use Rattle.rules.specs.Lines.{mostHeld}
 use Rattle.rules.specs.declared.Answer.{Answer}
+use Rattle.rules.specs.declared.Layer.{Layer}
 use Rattle.places.specs.declared.Place.{Place}
 use Rattle.places.specs.declared.Direction.{Direction}
 use Rattle.queue.specs.Kinds.{isListed}
 use Rattle.octets.proofs.Ranges.{and-both}
 use Rattle.records.specs.declared.Session.{Session}
 use Rattle.places.specs.Places.{isHolding, isEnded}
+use Rattle.records.specs.Controls.{withLayers}
 use Rattle.records.specs.Sound.{soundDirection, sound, directionOf, refusalOf}
 use Rattle.records.proofs.Refusals.{refusal-cases, place-holding}
 use Rattle.answers.specs.Table.{Unknown, Known, SoundDirection, Sound, HasEnded}
@@ -79,6 +81,12 @@ sound-words s =
   where
     all-five : {a b c d e : Bool} → a ≡ true → b ≡ true → c ≡ true → d ≡ true → e ≡ true → a && b && c && d && e ≡ true
     all-five p q r t u = rw (p, q, r, t, u)
+
+-- 4 does not look at the Telnet layers: a command that is unfinished, wherever its direction stands, is no reason for it
+pub any-layers : (s : Session) (up down : Layer)
+    → sound (record { live = s .live; fixed = s .fixed; control = withLayers (s .control) up down; command = s .command; reply = s .reply; kinds = s .kinds; up = s .up; down = s .down }) ≡ sound s
+unfolding sound
+any-layers s up down = refl
 
 -- ---- the direction
 

@@ -34,8 +34,8 @@ use Rattle.answers.specs.Table.{
   Zero,
   StopsAt,
   After,
-  heldGives,
-  HeldExceed,
+  endGives,
+  EndExceeds,
   Ends,
   BadFlags,
 }
@@ -237,44 +237,44 @@ module _ (s : Session) (rs rc : ℕ) where
   abbrev atEnd : Side → Step
   atEnd d = endStep d (stateOf s)
 
-  abbrev heldFit : Side → Bool
-  heldFit d = fits (atEnd d .toServer) (atEnd d .toClient) rs rc
+  abbrev endFits : Side → Bool
+  endFits d = fits (atEnd d .toServer) (atEnd d .toClient) rs rc
 
   abbrev endCall : ℕ → Situation
   endCall d = record { session = s; direction = d; serverRoom = rs; clientRoom = rc }
 
-  exceed : (d : ℕ) → heldFit (sideOf d) ≡ false → HeldExceed (endCall d)
+  exceed : (d : ℕ) → endFits (sideOf d) ≡ false → EndExceeds (endCall d)
   unfolding endStep
-  exceed zero e = by-sum (no-room (heldGives client s) [] rs rc e)
+  exceed zero e = by-sum (no-room (endGives client s) [] rs rc e)
     where
-      by-sum : (rs < length (heldGives client s)) ⊎ (rc < 0) → rs < length (heldGives client s)
+      by-sum : (rs < length (endGives client s)) ⊎ (rc < 0) → rs < length (endGives client s)
       by-sum (inl h) = h
       by-sum (inr h) = absurd (omega arith)
-  exceed (suc d) e = by-sum (no-room [] (heldGives server s) rs rc e)
+  exceed (suc d) e = by-sum (no-room [] (endGives server s) rs rc e)
     where
-      by-sum : (rs < 0) ⊎ (rc < length (heldGives server s)) → rc < length (heldGives server s)
+      by-sum : (rs < 0) ⊎ (rc < length (endGives server s)) → rc < length (endGives server s)
       by-sum (inl h) = absurd (omega arith)
       by-sum (inr h) = h
 
-  not-exceed : (d : ℕ) → heldFit (sideOf d) ≡ true → HeldExceed (endCall d) → ⊥
+  not-exceed : (d : ℕ) → endFits (sideOf d) ≡ true → EndExceeds (endCall d) → ⊥
   unfolding endStep
-  not-exceed zero e h = room (heldGives client s) [] rs rc e (inl h)
-  not-exceed (suc d) e h = room [] (heldGives server s) rs rc e (inr h)
+  not-exceed zero e h = room (endGives client s) [] rs rc e (inl h)
+  not-exceed (suc d) e h = room [] (endGives server s) rs rc e (inr h)
 
   end-low : (d : Side) (b : Bool) → numberOf (endOutcome s d (atEnd d) b) < 3
   unfolding endOutcome outcome refused
   end-low d true = omega arith
   end-low d false = omega arith
 
-  -- 0 and 2 by whether the held octets fit
-  pub end-zero-words : (d : ℕ) → Accepted (endCall d) → (b : Bool) → heldFit (sideOf d) ≡ b
-      → (numberOf (endOutcome s (sideOf d) (atEnd (sideOf d)) b) ≡ 0) ↔ (Accepted (endCall d) × (HeldExceed (endCall d) → ⊥))
+  -- 0 and 2 by whether what it lets go fits
+  pub end-zero-words : (d : ℕ) → Accepted (endCall d) → (b : Bool) → endFits (sideOf d) ≡ b
+      → (numberOf (endOutcome s (sideOf d) (atEnd (sideOf d)) b) ≡ 0) ↔ (Accepted (endCall d) × (EndExceeds (endCall d) → ⊥))
   unfolding endOutcome outcome refused
   end-zero-words d w true e = ((λ p. (w, not-exceed d e)), (λ q. refl))
   end-zero-words d w false e = ((λ p. absurd (omega arith)), (λ q. absurd (q .1 (exceed d e))))
 
-  pub end-two-words : (d : ℕ) → Accepted (endCall d) → (b : Bool) → heldFit (sideOf d) ≡ b
-      → (numberOf (endOutcome s (sideOf d) (atEnd (sideOf d)) b) ≡ 2) ↔ (Accepted (endCall d) × HeldExceed (endCall d))
+  pub end-two-words : (d : ℕ) → Accepted (endCall d) → (b : Bool) → endFits (sideOf d) ≡ b
+      → (numberOf (endOutcome s (sideOf d) (atEnd (sideOf d)) b) ≡ 2) ↔ (Accepted (endCall d) × EndExceeds (endCall d))
   unfolding endOutcome outcome refused
   end-two-words d w true e = ((λ p. absurd (omega arith)), (λ q. absurd (not-exceed d e (q .1))))
   end-two-words d w false e = ((λ p. (w, exceed d e)), (λ q. refl))
@@ -301,7 +301,7 @@ module _ (s : Session) (rs rc : ℕ) where
 abbrev pub endResult : Situation → Outcome
 endResult c =
     let d = sideOf (c .direction) in
-    endOutcome (c .session) d (endStep d (stateOf (c .session))) (heldFit (c .session) (c .serverRoom) (c .clientRoom) d)
+    endOutcome (c .session) d (endStep d (stateOf (c .session))) (endFits (c .session) (c .serverRoom) (c .clientRoom) d)
 
 -- a call is refused by 3, 4 or 6, or its number is lower
 pub by-call : (c : Situation) (o : Outcome) → Result c o → Unless c o

@@ -7,13 +7,16 @@ use mathlib.Core.Option.{Option}
 use Prim.Native.Nat.{ℕ, _≤_, _<_}
 use native.Mathlib.Omega.{arith}
 use Rattle.rules.specs.Octets.{choose}
-use Rattle.rules.specs.Answers.{sideOf, answerNumber}
+use Rattle.rules.specs.Answers.{Side, client, server, sideOf, answerNumber, mostToServer}
+use Rattle.rules.specs.Lines.{mostHeld}
 use Rattle.rules.specs.Setup.{badFlags, setupAnswer}
 use Rattle.rules.specs.declared.Answer.{Answer}
 use Rattle.rules.specs.declared.Setup.{Setup}
+use Rattle.records.specs.declared.Session.{Session}
+use Rattle.records.specs.Sound.{directionOf}
 use Rattle.session.specs.declared.Prepared.{Prepared}
 use Rattle.steps.specs.Takes.{takes}
-use Rattle.session.specs.Calls.{Outcome, refused, unlessRefused, outcome, arrived, endCalled, freshSession, deadSession, prepared}
+use Rattle.session.specs.Calls.{Outcome, refused, unlessRefused, outcome, arrived, endCalled, freshSession, deadSession, stateOf, prepared}
 use Rattle.answers.specs.Table.{
   Situation,
   arrivedAt,
@@ -33,10 +36,13 @@ use Rattle.answers.specs.Table.{
   One,
   Two,
   After,
-  HeldExceed,
+  roomFor,
+  EndExceeds,
   Ends,
   BadFlags,
 }
+use Rattle.answers.proofs.Lengths.{judged-held}
+use Rattle.answers.proofs.Bounds.{let-go-most}
 use Rattle.answers.proofs.Refusals.{Refusal, refusal-of}
 use Rattle.answers.proofs.Taking.{stops-full, stops-room, stop-words}
 use Rattle.answers.proofs.Rows.{
@@ -62,6 +68,10 @@ use Rattle.answers.proofs.Rows.{
   end-untouched,
   flags-words,
 }
+
+sound-held : (s : Session) → Sound s → (d : Side) → directionOf d (s .control) .held ≤ mostHeld
+sound-held s h client = h .client .most
+sound-held s h server = h .server .most
 
 module _ (c : Situation) where
   -- what every refusal says of any outcome below 3 holds of arrivals and ends
@@ -136,18 +146,26 @@ module _ (c : Situation) where
       unless-words c (result c []) (λ o. numberOf o ≡ 0) (Accepted c) (λ a h p. omega arith) (λ w. w) (λ w. ((λ p. w), (λ q. refl)))
 
   -- an end, 0: "done"
-  pub end-zero : (numberOf (endedAt c) ≡ 0) ↔ (Accepted c × (HeldExceed c → ⊥))
+  pub end-zero : (numberOf (endedAt c) ≡ 0) ↔ (Accepted c × (EndExceeds c → ⊥))
   unfolding endCalled refused
   end-zero =
-      unless-words c (endResult c) (λ o. numberOf o ≡ 0) (Accepted c × (HeldExceed c → ⊥)) (λ a h p. omega arith) (λ w. w .0)
+      unless-words c (endResult c) (λ o. numberOf o ≡ 0) (Accepted c × (EndExceeds c → ⊥)) (λ a h p. omega arith) (λ w. w .0)
       (λ w. end-zero-words (c .session) (c .serverRoom) (c .clientRoom) (c .direction) w _ refl)
 
-  -- an end, 2: "at an end the held octets, exceeds the room left"
-  pub end-two : (numberOf (endedAt c) ≡ 2) ↔ (Accepted c × HeldExceed c)
+  -- an end, 2: "at an end the held octets, exceeds the room left", with a command still unfinished
+  pub end-two : (numberOf (endedAt c) ≡ 2) ↔ (Accepted c × EndExceeds c)
   unfolding endCalled refused
   end-two =
-      unless-words c (endResult c) (λ o. numberOf o ≡ 2) (Accepted c × HeldExceed c) (λ a h p. omega arith) (λ w. w .0)
+      unless-words c (endResult c) (λ o. numberOf o ≡ 2) (Accepted c × EndExceeds c) (λ a h p. omega arith) (λ w. w .0)
       (λ w. end-two-words (c .session) (c .serverRoom) (c .clientRoom) (c .direction) w _ refl)
+
+  -- so an end with room for the most that an octet gives to the server is not stopped
+  pub end-room : Accepted c → mostToServer ≤ roomFor (sideOf (c .direction)) c → numberOf (endedAt c) ≡ 0
+  unfolding mostToServer
+  end-room w room =
+      let most = let-go-most (sideOf (c .direction)) (stateOf (c .session)) in
+      let few = sound-held (c .session) (w .sound) (sideOf (c .direction)) in
+      end-zero .1 (w, λ e. omega (arith, most, few, room, e, judged-held))
 
   -- 1 speaks of an octet
   pub end-never-one : numberOf (endedAt c) ≢ 1

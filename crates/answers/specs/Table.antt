@@ -15,6 +15,7 @@ use Rattle.rules.specs.declared.Fixed.{Fixed}
 use Rattle.records.specs.declared.Session.{Session}
 use Rattle.steps.specs.Steps.{State, Step, heldOf, octetStep}
 use Rattle.records.specs.Sound.{directionOf}
+use Rattle.records.specs.Controls.{unfinishedOf}
 use Rattle.session.specs.Calls.{stateOf, sessionAfter, Outcome, arrived, endCalled, endStep}
 
 -- ---- calls
@@ -58,7 +59,8 @@ pub record SoundDirection (d : Direction) : Type 0 where
   pub most : d .held ≤ mostHeld
   pub none : d .place ≢ Place.Holding → d .held ≡ 0
 
--- not 4: not "record not live, over 16 owed, an owed kind not listed here", nor octets held as above; kinds have the numbers from 0 to the last
+-- not 4: not "record not live, over 16 owed, an owed kind not listed here", nor octets held as above; kinds have the numbers from 0 to the last.
+-- A Telnet command that is unfinished is no octet held
 pub record Sound (s : Session) : Type 0 where
   pub live : s .live ≡ true
   pub owed : s .control .owed ≤ mostOwed
@@ -104,13 +106,13 @@ module _ (c : Situation) (octets : List ℕ) where
   abbrev pub nextStep : ℕ → Step
   nextStep k = octetStep (c .session .fixed) (sideOf (c .direction)) (before k .state) (getD octets k 0)
 
-  -- 1: "next octet is the client's, no AUTH yet, 16 replies owed"; after AUTH the client's octets pass at once
+  -- 1: "next octet is the client's, no AUTH yet, 16 replies owed", be it of a line or not; after AUTH the client's octets pass at once
   pub record Full (k : ℕ) : Type 0 where
     pub client : c .direction ≡ 0
     pub noAuth : before k .state .control .client .place ≢ Place.Passing
     pub owed : mostOwed ≤ before k .state .control .owed
 
-  -- 2: "next octet's output .. exceeds the room left in either buffer"
+  -- 2: "next octet's output .. exceeds the room left in either buffer": one of either side may write into both
   abbrev pub Exceeds : ℕ → Type 0
   Exceeds k =
       (c .serverRoom - length (before k .toServer) < length (nextStep k .toServer))
@@ -155,18 +157,19 @@ module _ (c : Situation) (octets : List ℕ) where
 
 -- ---- an end
 
--- what the octets give that a direction holds, and the room in the buffer that it goes into
-abbrev pub heldGives : Side → Session → List ℕ
-heldGives d s = passed (heldOf d (stateOf s))
+-- what a direction's end lets go: what its held octets give, and "any other command still unfinished passes after them"
+abbrev pub endGives : Side → Session → List ℕ
+endGives d s = passed (heldOf d (stateOf s)) ++ unfinishedOf d (s .control)
 
--- that room: the client's octets go to the server, and the server's to the client
+-- the room in the one buffer that this goes into: the client's octets go to the server, and the server's to the client
 abbrev pub roomFor : Side → Situation → ℕ
 roomFor client c = c .serverRoom
 roomFor server c = c .clientRoom
 
--- 2: "at an end the held octets, exceeds the room left"
-abbrev pub HeldExceed : Situation → Type 0
-HeldExceed c = roomFor (sideOf (c .direction)) c < length (heldGives (sideOf (c .direction)) (c .session))
+-- 2: "at an end the held octets, exceeds the room left"; "at an end number 2 counts its octets with the held ones", those of a
+-- command still unfinished
+abbrev pub EndExceeds : Situation → Type 0
+EndExceeds c = roomFor (sideOf (c .direction)) c < length (endGives (sideOf (c .direction)) (c .session))
 
 -- what goes to the side that a direction leads to, and to the one that it comes from
 abbrev pub onward : Side → Outcome → List ℕ
@@ -178,9 +181,9 @@ abbrev pub back : Side → Outcome → List ℕ
 back client o = o .toClient
 back server o = o .toServer
 
--- "Ending a direction passes its held octets on unchanged and owes nothing for them"
+-- "Ending a direction passes its held octets on unchanged and owes nothing for them", nor for an unfinished command behind them
 pub record Ends (c : Situation) (o : Outcome) : Type 0 where
-  pub passed : onward (sideOf (c .direction)) o ≡ heldGives (sideOf (c .direction)) (c .session)
+  pub passed : onward (sideOf (c .direction)) o ≡ endGives (sideOf (c .direction)) (c .session)
   pub nothing : back (sideOf (c .direction)) o ≡ []
   pub taken : o .called .taken ≡ 0
   pub owed : o .called .session .control .owed ≡ c .session .control .owed

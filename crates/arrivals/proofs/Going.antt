@@ -147,7 +147,7 @@ module _ (f : Fixed) (d : Side) (l : List ℕ) (s₀ : State) (from to : List �
       module _ (open-queue : isQueueFull d (isPassing (k .state .control .client .place)) (k .state .control .owed) ≡ false) where
         same-fits : (fit : Bool) → fit ≡ octetFits f d (getD l i 0) k
             → fits (octetStep f d (k .state) (getD l i 0) .toServer) (octetStep f d (k .state) (getD l i 0) .toClient) (length from - w .server) (length to - w .client) ≡ fit
-        unfolding octetFits stepFits
+        unfolding stepFits
         same-fits fit e =
             (λ j. fits (octetStep f d (k .state) (getD l i 0) .toServer) (octetStep f d (k .state) (getD l i 0) .toClient) (sym (going .server-size) j - w .server) (sym (going .client-size) j - w .client))
             ∙ sym e
@@ -155,16 +155,16 @@ module _ (f : Fixed) (d : Side) (l : List ℕ) (s₀ : State) (from to : List �
         -- an octet that does not fit leaves all as it was
         pub stopped-unfit : (k′ : Core) → false ≡ octetFits f d (getD l i 0) k → k′ ≡ octetCore f d (getD l i 0) k → Stopped f d l s₀ from to Answer.NoRoom i k′
         stopped-unfit k′ fit after =
-            subst (λ (c : Core). Stopped f d l s₀ from to Answer.NoRoom i c) (core-same f d (getD l i 0) k (sym fit) ∙ sym after)
+            subst (λ (c : Core). Stopped f d l s₀ from to Answer.NoRoom i c) (core-same (octetStep f d (k .state) (getD l i 0)) k (sym fit) ∙ sym after)
             (stopped-with Answer.NoRoom (takes-unfit f d (k .state) l i (length from - w .server) (length to - w .client) h open-queue (same-fits false fit)))
 
         -- an octet that fits goes before the rest
         pub going-on : (k′ : Core) → true ≡ octetFits f d (getD l i 0) k → k′ ≡ octetCore f d (getD l i 0) k
             → Bounded (k′ .state .control) (k′ .written) (k′ .serverBuffer) (k′ .clientBuffer) → Going f d l s₀ from to k′ (i + 1)
-        unfolding octetFits stepFits
+        unfolding stepFits
         going-on k′ fit after bounded =
             let t = octetStep f d (k .state) (getD l i 0) in
-            let next = core-next f d (getD l i 0) k (sym fit) in
+            let next = core-next (octetStep f d (k .state) (getD l i 0)) k (sym fit) in
             let room = fits-room (t .toServer) (t .toClient) (length (k .serverBuffer) - w .server) (length (k .clientBuffer) - w .client) (sym fit) in
             let more = takes-more f d (k .state) l i (length from - w .server) (length to - w .client) h open-queue (same-fits true fit) in
             let server = going .bounded .server in
@@ -221,11 +221,11 @@ module _ (f : Fixed) (d : Side) (l : List ℕ) (s₀ : State) (from to : List �
   -- it is taken
   bounded-next : true ≡ octetFits f d x k → m ≡ octetCore f d x k → Counted (m .state .control)
       → Bounded (m .state .control) (m .written) (m .serverBuffer) (m .clientBuffer)
-  unfolding octetFits stepFits
+  unfolding stepFits
   bounded-next fit same counts =
       let t = octetStep f d (k .state) x in
       let w = k .written in
-      let core = same ∙ sym (core-next f d x k (sym fit)) in
+      let core = same ∙ sym (core-next (octetStep f d (k .state) x) k (sym fit)) in
       let room = fits-room (t .toServer) (t .toClient) (length (k .serverBuffer) - w .server) (length (k .clientBuffer) - w .client) (sym fit) in
       let roomS = room .0 in
       let roomC = room .1 in

@@ -7,7 +7,8 @@ use borrow.Rule.Slice.PartMut.{midOf, putMid}
 use Rattle.rules.specs.Answers.{Side, client, server}
 use Rattle.rules.specs.Lines.{mostHeld}
 use Rattle.records.specs.Layout.{lentCommand, lentSize, linesSize}
-use Rattle.records.specs.Controls.{withClient, withServer}
+use Rattle.rules.specs.declared.Telnet.{Telnet}
+use Rattle.records.specs.Controls.{withClient, withServer, layerIn}
 use Rattle.records.specs.Sound.{directionOf}
 use Rattle.records.specs.declared.Control.{Control}
 use Rattle.rules.specs.declared.Fixed.{Fixed}
@@ -17,6 +18,7 @@ use Rattle.steps.specs.Takes.{Core, commandIn, replyIn, stateFrom, stateIn, cor
 use Rattle.steps.specs.Core.{Bounded}
 use Rattle.steps.proofs.Lent.{lines-lent}
 use Rattle.steps.proofs.Over.{then, then-state}
+use Rattle.steps.proofs.Through.{Clear}
 use Rattle.steps.proofs.Halves.{command-size, reply-size, reply-lent, command-back, reply-back}
 use Rattle.arrivals.specs.declared.running.DirectionRun.{DirectionRun}
 use Rattle.arrivals.specs.Runs.{lineOf, Quiet, DirectionRan, Ran}
@@ -36,7 +38,7 @@ module _ (lent lines : List ℕ) (all : length lent ≡ lentSize) (kept : length
 
 -- a run of one direction, whose line is lent further than the other's
 module _ (f : Fixed) (d : Side) (l : List ℕ) (c : Control) (lines kinds sb cb : List ℕ) (w : Written) (i : ℕ) (size : length lines ≡ linesSize)
-    (bounds : Bounded c w sb cb) (quiet : Quiet c kinds) (queue : Open d (stateIn c lines kinds)) where
+    (bounds : Bounded c w sb cb) (quiet : Quiet c kinds) (clear : layerIn d c .telnet ≡ Telnet.Clear) (queue : Open d (stateIn c lines kinds)) where
   abbrev k : Core
   k = coreIn c lines kinds sb cb w
 
@@ -47,7 +49,7 @@ module _ (f : Fixed) (d : Side) (l : List ℕ) (c : Control) (lines kinds sb cb 
   of-side {r} {line} {out} e same array ran =
       subst (λ (s : Side). Ran f s l k i (coreRan e k (r .direction) line out (r .at)) (r .taken)) (sym same)
       (ran-moved f e l k i (r .taken) (ran .forward) (ran .inside) (quiet (commandIn lines) (replyIn lines))
-      (subst (λ (s : Side). Open s (k .state)) same queue) (bounds .server) (bounds .client) array (ran .moved))
+      (subst (λ (s : Side). Clear s (k .state)) same clear) (subst (λ (s : Side). Open s (k .state)) same queue) (bounds .server) (bounds .client) array (ran .moved))
 
   pub command-ran : {r : DirectionRun} {line out : List ℕ} {c′ : Control} → d ≡ client → length line ≡ length (commandIn lines)
       → DirectionRan l i (c .client) (commandIn lines) sb (w .server) r line out

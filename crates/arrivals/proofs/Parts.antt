@@ -8,8 +8,8 @@ use native.Mathlib.Numerals.{add-one}
 use native.Mathlib.Omega.{arith}
 use lib.ListN.{length, take, drop, getD, length-append}
 use lib.Seq.{take-take, drop-cons}
-use Rattle.rules.specs.Octets.{lf, every, isNot, run, front}
-use Rattle.rules.specs.Lines.{judged, mostHeld}
+use Rattle.rules.specs.Octets.{every, run, front}
+use Rattle.rules.specs.Lines.{judged, mostHeld, isOrdinary}
 use Rattle.rules.specs.Answers.{Side, client, server}
 use Rattle.octets.proofs.Runs.{run-length, every-front, part-rest, part-length}
 use Rattle.output.specs.Buffer.{putAt, Put}
@@ -21,12 +21,13 @@ use Rattle.rules.specs.declared.Fixed.{Fixed}
 use Rattle.steps.specs.Steps.{State, octetStep}
 use Rattle.records.specs.Sound.{directionOf, Counted}
 use Rattle.steps.specs.Takes.{takes, Core, coreFrom}
-use Rattle.steps.specs.Core.{Bounded, Stepped, stepFits, octetFits}
+use Rattle.steps.specs.Core.{Bounded, Stepped, stepFits}
 use Rattle.steps.specs.Settled.{Settled}
 use Rattle.arrivals.specs.Runs.{prefixed, toServerOf, toClientOf, lineOf, withCommand, withReply, holding, holdsMore, Ran, GivesOn, givesNothing, Moved, movedOn, movedBehind, DirectionRan}
 use Rattle.arrivals.proofs.Going.{Going, put-at-rest}
 use Rattle.steps.proofs.Stops.{fits-room}
 use Rattle.steps.proofs.Octets.{core-next}
+use Rattle.steps.proofs.Through.{Clear}
 use Rattle.arrivals.proofs.Runs.{Open, one-taken, gives-run, holds-run}
 
 -- ---- the loop goes on over a run
@@ -123,11 +124,11 @@ ran-bounded f d l k k′ i j ran bounded =
 pub ran-octet : (f : Fixed) (d : Side) (l : List ℕ) (k k′ : Core) (i x : ℕ) → i < length l → x ≡ getD l i 0
     → Open d (k .state) → k .written .server ≤ length (k .serverBuffer) → k .written .client ≤ length (k .clientBuffer)
     → Stepped f d x k true k′ → Ran f d l k i k′ (i + 1)
-unfolding octetFits stepFits
+unfolding stepFits
 ran-octet f d l k k′ i x h e queue a b stepped =
     let w = k .written in
     let t = octetStep f d (k .state) x in
-    let next = core-next f d x k (sym (stepped .fits)) in
+    let next = core-next (octetStep f d (k .state) x) k (sym (stepped .fits)) in
     let room = fits-room (t .toServer) (t .toClient) (length (k .serverBuffer) - w .server) (length (k .clientBuffer) - w .client) (sym (stepped .fits)) in
     let roomS = room .0 in
     let roomC = room .1 in
@@ -288,10 +289,10 @@ module _ (f : Fixed) (d : Side) (l : List ℕ) (k : Core) (i j : ℕ) (h : i ≤
         counted = counts;
       }
 
-  module _ (settled : Settled (k .state)) (queue : Open d (k .state)) (server-room : k .written .server ≤ length (k .serverBuffer))
+  module _ (settled : Settled (k .state)) (clear : Clear d (k .state)) (queue : Open d (k .state)) (server-room : k .written .server ≤ length (k .serverBuffer))
       (client-room : k .written .client ≤ length (k .clientBuffer)) where
     -- they are held: n is the number held then, and line the array
-    pub ran-held : (n : ℕ) (line : List ℕ) → directionOf d (k .state .control) .place ≡ Place.Holding → every (isNot lf) xs ≡ true
+    pub ran-held : (n : ℕ) (line : List ℕ) → directionOf d (k .state .control) .place ≡ Place.Holding → every isOrdinary xs ≡ true
         → directionOf d (k .state .control) .held + (j - i) ≤ mostHeld → length (lineOf d (k .state)) ≡ mostHeld
         → n ≡ directionOf d (k .state .control) .held + (j - i)
         → line ≡ putAt (lineOf d (k .state)) (directionOf d (k .state .control) .held) xs
@@ -303,7 +304,7 @@ module _ (f : Fixed) (d : Side) (l : List ℕ) (k : Core) (i j : ℕ) (h : i ≤
         let same : holding d (k .state) n line ≡ holdsMore d (k .state) xs = λ t. holding d (k .state) (count t) (el t) in
         subst (λ (c : Core). Ran f d l k i c j) (core-held k n line d)
         (ran-part (holding d (k .state) n line) [] [] (omega arith) (omega arith) (held-counted k n line d (omega arith))
-        (λ m n _ _. holds-run f d (k .state) settled place queue xs (drop j l) m n none (omega arith) (omega arith)
+        (λ m n _ _. holds-run f d (k .state) settled clear place queue xs (drop j l) m n none (omega arith) (omega arith)
         ∙ (λ t. prefixed (length xs) [] [] (takes f d (sym same t) (drop j l) (sym (sub-zero m) t) (sym (sub-zero n) t)))))
 
     -- they go on as they come
@@ -315,7 +316,7 @@ module _ (f : Fixed) (d : Side) (l : List ℕ) (k : Core) (i j : ℕ) (h : i ≤
     ran-given gives a b =
         subst (λ (c : Core). Ran f d l k i c j) (core-given k xs d)
         (ran-part (k .state) (toServerOf d xs) (toClientOf d xs) a b (λ c. c)
-        (λ m n. gives-run f d (k .state) settled queue xs (drop j l) m n gives))
+        (λ m n. gives-run f d (k .state) settled clear queue xs (drop j l) m n gives))
 
     -- either, as the code has it
     pub ran-moved : {e : Direction} {line out : List ℕ} {n : ℕ} → length (lineOf d (k .state)) ≡ mostHeld
@@ -339,7 +340,7 @@ given-none d l i =
 
 module _ {l : List ℕ} {i j : ℕ} {d : Direction} (line out : List ℕ) {n : ℕ} where
   pub held-run : {line′ : List ℕ} → d .place ≡ Place.Holding → (i ≤ j) × (j ≤ length l) × (d .held + (j - i) ≤ length line)
-      → every (isNot lf) (take (j - i) (drop i l)) ≡ true → line′ ≡ putAt line (d .held) (take (j - i) (drop i l))
+      → every isOrdinary (take (j - i) (drop i l)) ≡ true → line′ ≡ putAt line (d .held) (take (j - i) (drop i l))
       → DirectionRan l i d line out n (record { taken = j; direction = at Place.Holding (d .held + (j - i)); at = n }) line′ out
   held-run place (h, g, most) none el =
       let size = part-length l i j h g in
@@ -361,18 +362,28 @@ module _ {l : List ℕ} {i j : ℕ} {d : Direction} (line out : List ℕ) {n : �
         moved = movedOn gives room refl refl eo (en ∙ after-fits out n (take (j - i) (drop i l)) room);
       }
 
--- the part of l from i to the end e that is no LF, as a search in the part from i to e found its length n
-pub no-lf-part : (l : List ℕ) (i e j n : ℕ) → i ≤ e → e ≤ length l
-    → n ≡ 0 + run (isNot lf) (drop 0 (take (e - i) (drop i l))) → j ≡ i + n
-    → (j ≤ e) × (every (isNot lf) (take (j - i) (drop i l)) ≡ true)
+-- the part of l from i to the end e that is ordinary, as a search in the part from i to e found its length n
+pub ordinary-part : (l : List ℕ) (i e j n : ℕ) → i ≤ e → e ≤ length l
+    → n ≡ 0 + run isOrdinary (drop 0 (take (e - i) (drop i l))) → j ≡ i + n
+    → (j ≤ e) × (every isOrdinary (take (j - i) (drop i l)) ≡ true)
 unfolding front
-no-lf-part l i e j n h g en ej =
+ordinary-part l i e j n h g en ej =
     let part = take (e - i) (drop i l) in
     let size : length part ≡ e - i = part-length l i e h g in
-    let most : run (isNot lf) part ≤ length part = run-length (isNot lf) part in
-    let same : j - i ≡ run (isNot lf) part = omega arith in
-    let short : take (run (isNot lf) part) part ≡ take (run (isNot lf) part) (drop i l) =
-    take-take (run (isNot lf) part) (e - i) (drop i l) (omega arith) in (
+    let most : run isOrdinary part ≤ length part = run-length isOrdinary part in
+    let same : j - i ≡ run isOrdinary part = omega arith in
+    let short : take (run isOrdinary part) part ≡ take (run isOrdinary part) (drop i l) =
+    take-take (run isOrdinary part) (e - i) (drop i l) (omega arith) in (
       omega arith,
-      rw same (subst (λ (t : List ℕ). every (isNot lf) t ≡ true) short (every-front (isNot lf) part)),
+      rw same (subst (λ (t : List ℕ). every isOrdinary t ≡ true) short (every-front isOrdinary part)),
     )
+
+-- an ordinary octet that arrives alone
+pub ordinary-one : (l : List ℕ) (i n : ℕ) → n ≡ 1 → i < length l → isOrdinary (getD l i 0) ≡ true → every isOrdinary (take n (drop i l)) ≡ true
+unfolding every
+ordinary-one l i n e h t = rw (e, drop-cons l i 0 h, t)
+
+-- none
+pub ordinary-none : (l : List ℕ) (i n : ℕ) → n ≡ 0 → every isOrdinary (take n (drop i l)) ≡ true
+unfolding every
+ordinary-none l i n e = rw e

@@ -9,9 +9,11 @@ use lib.ListN.{length, take, drop, set, getD, length-append, length-drop, length
 use lib.Seq.{length-take-le, take-take, drop-cons}
 use borrow.Author.Tests.{lt-leb}
 use borrow.Rule.Slice.PartMut.{putMid}
-use Rattle.rules.specs.Octets.{lf, every, isNot}
+use Rattle.rules.specs.Octets.{lf, every}
 use Rattle.rules.specs.Answers.{client, isQueueFull, mostOwed}
-use Rattle.rules.specs.Lines.{mostHeld}
+use Rattle.rules.specs.Lines.{mostHeld, passed, isOrdinary}
+use Rattle.rules.specs.Telnet.{freshLayer}
+use Rattle.rules.specs.declared.Telnet.{Telnet}
 use Rattle.records.specs.Layout.{lentKinds, lentCommand, lentSize}
 use Rattle.octets.proofs.Runs.{part-length}
 use Rattle.output.specs.Buffer.{putAt, positionAfter}
@@ -35,6 +37,7 @@ use Rattle.arrivals.proofs.Runs.{Open, one-taken}
 use Rattle.arrivals.proofs.Single.{stepTo}
 use Rattle.arrivals.proofs.Parts.{ran-none, ran-then, ran-held}
 use Rattle.arrivals.proofs.LineEnds.{client-line, still-settled, pushed-still}
+use Rattle.steps.proofs.Through.{Clear}
 use Rattle.steps.proofs.Lent.{put-part, put-size, kinds-size, kinds-back, kinds-addresses, kind-stored, command-back, command-kinds, command-addresses}
 
 -- ---- no line, and lines behind others
@@ -44,7 +47,7 @@ pub said-none : (l : List ℕ) (i held owed : ℕ) (lent out : List ℕ) (at : �
     → SaidPlain l i held owed lent out at (record { more = false; taken = i; held = held; owed = owed; at = at }) lent out
 said-none l i held owed lent out at inside most count room still =
     record {
-      ran = λ f c toClient n h.
+      ran = λ f c _ toClient n h.
           ran-none f client l (coreLent (saidControl c held owed) lent out toClient (record { server = at; client = n })) i inside room h;
       held = most;
       owed = count;
@@ -58,11 +61,11 @@ module _ {l : List ℕ} {i held owed : ℕ} {lent out : List ℕ} {at : ℕ} {r 
       → SaidPlain l (r .taken) (r .held) (r .owed) lent′ out′ (r .at) q lent″ out″ → SaidPlain l i held owed lent out at q lent″ out″
   said-then {q} {lent″} {out″} one two =
       record {
-        ran = λ f c toClient n h.
+        ran = λ f c e toClient n h.
             ran-then f client l (coreLent (saidControl c held owed) lent out toClient (record { server = at; client = n }))
             (coreLent (saidControl c (r .held) (r .owed)) lent′ out′ toClient (record { server = r .at; client = n }))
             (coreLent (saidControl c (q .held) (q .owed)) lent″ out″ toClient (record { server = q .at; client = n }))
-            i (r .taken) (q .taken) (one .ran f c toClient n h) (two .ran f c toClient n h);
+            i (r .taken) (q .taken) (one .ran f c e toClient n h) (two .ran f c e toClient n h);
         held = two .held;
         owed = two .owed;
         written = two .written;
@@ -87,20 +90,22 @@ module _ {l : List ℕ} {i held owed : ℕ} {lent out : List ℕ} {at : ℕ} {r 
         server = start;
         owed = 0;
         opening = 0;
+        up = freshLayer;
+        down = freshLayer;
       })
-      [] 0 (omega arith) .inside
+      refl [] 0 (omega arith) .inside
 
 -- of a whole control in which the client holds its octets
 module _ (c : Control) {l : List ℕ} {i : ℕ} {lent out : List ℕ} (w : Written) {r : Said} {lent′ out′ : List ℕ} where
-  pub said-ran : c .client .place ≡ Place.Holding → SaidPlain l i (c .client .held) (c .owed) lent out (w .server) r lent′ out′
+  pub said-ran : c .client .place ≡ Place.Holding → c .up .telnet ≡ Telnet.Clear → SaidPlain l i (c .client .held) (c .owed) lent out (w .server) r lent′ out′
       → {after : Control} → after ≡ saidControl c (r .held) (r .owed) → (f : Fixed) (toClient : List ℕ) → w .client ≤ length toClient
       → Ran f client l (coreLent c lent out toClient w) i (coreLent after lent′ out′ toClient (record { server = r .at; client = w .client })) (r .taken)
-  said-ran e s built f toClient h =
+  said-ran e clear s built f toClient h =
       let same : saidControl c (c .client .held) (c .owed) ≡ c = λ t. withClient c (c .switches) (at (sym e t) (c .client .held)) (c .owed) in
       let then : Control → Core = λ d. coreLent d lent′ out′ toClient (record { server = r .at; client = w .client }) in
       subst (λ (d : Control). Ran f client l (coreLent c lent out toClient w) i (then d) (r .taken)) (sym built)
       (subst (λ (d : Control). Ran f client l (coreLent d lent out toClient w) i (then (saidControl c (r .held) (r .owed))) (r .taken)) same
-      (s .ran f c toClient (w .client) h))
+      (s .ran f c clear toClient (w .client) h))
 
 -- ---- the octets that are held
 
@@ -140,7 +145,7 @@ module _ (l : List ℕ) {i j : ℕ} (held : ℕ) (lent : List ℕ) {p : List ℕ
       ∙ (take-put-at before held xs xs-fit ∙ ap (λ (n : ℕ). take n before ++ xs) e))))
 
   -- the octets up to an LF, put behind those that are held
-  pub line-held : (owed : ℕ) (out : List ℕ) (at : ℕ) → every (isNot lf) xs ≡ true → owed < mostOwed → isStill (kindsLent lent) 0 owed ≡ true
+  pub line-held : (owed : ℕ) (out : List ℕ) (at : ℕ) → every isOrdinary xs ≡ true → owed < mostOwed → isStill (kindsLent lent) 0 owed ≡ true
       → at ≤ length out
       → SaidPlain l i held owed lent out at (record { more = false; taken = j; held = held + (j - i); owed = owed; at = at })
       (putMid lentCommand mostHeld lent p) out
@@ -148,13 +153,13 @@ module _ (l : List ℕ) {i j : ℕ} (held : ℕ) (lent : List ℕ) {p : List ℕ
       let n = held + (j - i) in
       let most : n ≤ mostHeld = omega (arith, room, before-size) in
       record {
-        ran = λ f c toClient m fits.
+        ran = λ f c clear toClient m fits.
             let w : Written = record { server = at; client = m } in
             let s = stateLent (saidControl c held owed) lent in
             let settled = still-settled s still in
             subst (λ (t : State). Ran f client l (coreFrom s out toClient w) i (coreFrom t out toClient w) j)
             (sym (command-back lent all p line-size (saidControl c n owed)))
-            (ran-held f client l (coreFrom s out toClient w) i j h g settled (few-open owed few) inside fits n p refl none most before-size refl line);
+            (ran-held f client l (coreFrom s out toClient w) i j h g settled clear (few-open owed few) inside fits n p refl none most before-size refl line);
         held = most;
         owed = omega arith;
         written = inside;
@@ -167,20 +172,20 @@ module _ (l : List ℕ) {i j : ℕ} (held : ℕ) (lent : List ℕ) {p : List ℕ
 -- as a run of one octet: its text is the line, and a plain kind is owed
 module _ (f : Fixed) (l : List ℕ) (s : State) (sb cb : List ℕ) (w : Written) (j next : ℕ) (out : List ℕ) where
   abbrev text : List ℕ
-  text = take (s .control .client .held) (s .command) ++ (lf ∷ [])
+  text = passed (take (s .control .client .held) (s .command)) ++ (lf ∷ [])
 
   abbrev ended : State
   ended =
       stateFrom (saidControl (s .control) 0 (s .control .owed + 1)) (s .command) (s .reply) (set (s .kinds) (s .control .owed) 0)
 
-  client-ended : j < length l → getD l j 0 ≡ lf → s .control .client .place ≡ Place.Holding → Open client s
+  client-ended : j < length l → getD l j 0 ≡ lf → s .control .client .place ≡ Place.Holding → Clear client s → Open client s
       → isStill (s .kinds) 0 (s .control .owed) ≡ true → isPlain (take (s .control .client .held) (s .command)) ≡ true
       → s .control .owed < mostOwed → length (s .kinds) ≡ mostOwed → w .server + length text ≤ length sb → w .client ≤ length cb
       → next ≡ positionAfter sb (w .server) text → out ≡ putAt sb (w .server) text
       → Ran f client l (coreFrom s sb cb w) j (coreFrom ended out cb (record { server = next; client = w .client })) (j + 1)
-  client-ended h e place queue still plain few size room other en eo =
+  client-ended h e place clear queue still plain few size room other en eo =
       let x = text in
-      let step = client-line f s place still plain in
+      let step = client-line f s place clear still plain in
       let at = en ∙ after-fits sb (w .server) x room in
       let kept = nothing-put cb (w .client) .1 in
       let wc : w .client ≡ w .client + 0 = omega arith in
@@ -205,8 +210,8 @@ module _ (f : Fixed) (l : List ℕ) (s : State) (sb cb : List ℕ) (w : Written)
 -- the same over what is lent, into which the code stores the kind
 module _ (l : List ℕ) {j : ℕ} (n owed : ℕ) (lent : List ℕ) (all : length lent ≡ lentSize) (out : List ℕ) (at : ℕ) {next : ℕ} {out′ line : List ℕ} where
   pub line-ended : j < length l → getD l j 0 ≡ lf → n ≤ mostHeld → owed < mostOwed → isStill (kindsLent lent) 0 owed ≡ true → at ≤ length out
-      → length line < length out - at → line ≡ take (lentCommand + n - lentCommand) (drop lentCommand lent) → isPlain line ≡ true
-      → next ≡ positionAfter out at (line ++ (lf ∷ [])) → out′ ≡ putAt out at (line ++ (lf ∷ []))
+      → length (passed line) < length out - at → line ≡ take (lentCommand + n - lentCommand) (drop lentCommand lent) → isPlain line ≡ true
+      → next ≡ positionAfter out at (passed line ++ (lf ∷ [])) → out′ ≡ putAt out at (passed line ++ (lf ∷ []))
       → SaidPlain l j n owed lent out at (record { more = true; taken = j + 1; held = 0; owed = owed + 1; at = next })
       (set lent (lentKinds + owed) 0) out′
   line-ended h e most few still inside room el plain en eo =
@@ -217,11 +222,11 @@ module _ (l : List ℕ) {j : ℕ} (n owed : ℕ) (lent : List ℕ) (all : length
       let count : lentCommand + n - lentCommand ≡ n = omega arith in
       let same : line ≡ take n (commandIn (linesLent lent)) =
       el ∙ (ap (λ (k : ℕ). take k (drop lentCommand lent)) count ∙ sym (take-take n mostHeld (drop lentCommand lent) most)) in
-      let fits : at + length (line ++ (lf ∷ [])) ≤ length out = omega (arith, length-append line (lf ∷ [])) in
-      let end = en ∙ after-fits out at (line ++ (lf ∷ [])) fits in
-      let whole = ap (λ (x : List ℕ). length x) eo ∙ length-put out at (line ++ (lf ∷ [])) fits in
+      let fits : at + length (passed line ++ (lf ∷ [])) ≤ length out = omega (arith, length-append (passed line) (lf ∷ [])) in
+      let end = en ∙ after-fits out at (passed line ++ (lf ∷ [])) fits in
+      let whole = ap (λ (x : List ℕ). length x) eo ∙ length-put out at (passed line ++ (lf ∷ [])) fits in
       record {
-        ran = λ f c toClient m other.
+        ran = λ f c clear toClient m other.
             let w : Written = record { server = at; client = m } in
             let s = stateLent (saidControl c n owed) lent in
             let after : State = stateLent (saidControl c 0 (owed + 1)) (set lent (lentKinds + owed) 0) in
@@ -229,10 +234,10 @@ module _ (l : List ℕ) {j : ℕ} (n owed : ℕ) (lent : List ℕ) (all : length
             ap (stateLent (saidControl c 0 (owed + 1))) back ∙ kinds-back lent all p size (saidControl c 0 (owed + 1)) in
             subst (λ (t : State). Ran f client l (coreFrom s out toClient w) j (coreFrom t out′ toClient (record { server = next; client = m })) (j + 1))
             (sym path)
-            (client-ended f l s out toClient w j next out′ h e refl (few-open owed few) still
+            (client-ended f l s out toClient w j next out′ h e refl clear (few-open owed few) still
             (subst (λ (x : List ℕ). isPlain x ≡ true) same plain) few kinds
-            (subst (λ (x : List ℕ). at + length (x ++ (lf ∷ [])) ≤ length out) same fits) other
-            (en ∙ ap (λ (x : List ℕ). positionAfter out at (x ++ (lf ∷ []))) same) (eo ∙ ap (λ (x : List ℕ). putAt out at (x ++ (lf ∷ []))) same));
+            (subst (λ (x : List ℕ). at + length (passed x ++ (lf ∷ [])) ≤ length out) same fits) other
+            (en ∙ ap (λ (x : List ℕ). positionAfter out at (passed x ++ (lf ∷ []))) same) (eo ∙ ap (λ (x : List ℕ). putAt out at (passed x ++ (lf ∷ []))) same));
         held = omega arith;
         owed = omega arith;
         written = omega arith;

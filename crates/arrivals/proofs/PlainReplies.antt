@@ -10,8 +10,9 @@ use lib.ListN.{length, take, drop, getD, length-append, length-drop}
 use lib.Seq.{length-take-le, take-all, getD-take, drop-cons, drop-drop}
 use borrow.Author.Tests.{leb-true, leb-false, ltb-true, eqb-true, eqb-false, le-leb, lt-leb}
 use borrow.Rule.Slice.PartMut.{putMid, midOf}
-use Rattle.rules.specs.Octets.{choose, lf, every, isNot}
-use Rattle.rules.specs.Lines.{content, mostHeld}
+use Rattle.rules.specs.Octets.{choose, lf, every}
+use Rattle.rules.specs.Lines.{content, mostHeld, passed, isOrdinary}
+use Rattle.rules.specs.Telnet.{cleared}
 use Rattle.rules.specs.Replies.{isOpen, replyLine, openingAfter, headAnswers, authAtHead}
 use Rattle.rules.specs.Answers.{client, server, isQueueFull, mostOwed}
 use Rattle.rules.specs.declared.ReplyLine.{ReplyLine}
@@ -30,12 +31,12 @@ use Rattle.queue.specs.Kinds.{kindOf, headOf, answersAtHead, shifted, isStill}
 use Rattle.queue.proofs.Listed.{length-shifted}
 use Rattle.downstream.specs.Downstream.{serverEffectOf, kindRemoved, headRemoved, lineRemoves, kindEffect, headEffect, lineGives, wholeLine, replyEffect, serverEffect}
 use Rattle.records.specs.declared.Control.{Control}
-use Rattle.records.specs.Controls.{withServer}
+use Rattle.records.specs.Controls.{withServer, withLayer}
 use Rattle.rules.specs.declared.Fixed.{Fixed}
 use Rattle.steps.specs.declared.Written.{Written}
 use Rattle.arrivals.specs.declared.plain.Answered.{Answered}
 use Rattle.records.specs.Sound.{blocked}
-use Rattle.steps.specs.Steps.{State, stored, owedFrom, leaving, answersText, isAuthNext, settledState, settledText, serverEffectIn, serverState, serverStep, octetStep}
+use Rattle.steps.specs.Steps.{State, stored, letGoOf, owedFrom, leaving, answersText, isAuthNext, settledControl, settledState, settledText, serverEffectIn, serverState, serverStep, lineStep, octetStep}
 use Rattle.steps.specs.Takes.{takes, Core, coreFrom, stateFrom, commandIn, replyIn, kindsLent, linesLent, stateLent, coreLent}
 use Rattle.arrivals.specs.Runs.{Ran}
 use Rattle.arrivals.specs.PlainRuns.{isPlainFirst, plainRemoves, keepsStill, answeredControl, AnsweredPlain}
@@ -45,6 +46,7 @@ use Rattle.arrivals.proofs.Runs.{one-taken, server-open}
 use Rattle.arrivals.proofs.Parts.{ran-none, ran-then, ran-held}
 use Rattle.queue.proofs.Still.{still-answers, still-auth}
 use Rattle.arrivals.proofs.LineEnds.{still-settled}
+use Rattle.steps.proofs.Through.{Clear, octet-clear}
 use Rattle.steps.proofs.Lent.{put-size, kinds-size, kinds-addresses, kinds-back, put-part, reply-addresses, reply-kinds, reply-back}
 
 -- ---- a queue that is still behind the kinds removed
@@ -67,22 +69,23 @@ module _ (s : State) (n : ℕ) (size : s .control .owed ≤ length (s .kinds)) (
   abbrev without : State
   without =
       let c = s .control in
-      stateFrom (record { switches = c .switches; client = c .client; server = c .server; owed = c .owed - n; opening = c .opening })
+      stateFrom (withServer c (c .server) (c .owed - n) (c .opening))
       (s .command) (s .reply) (shifted (s .kinds) n (c .owed))
 
   still-state : settledState s n ≡ without
-  unfolding settledState
+  unfolding settledState settledControl
   still-state =
       let c = s .control in
       let stays = choose-false (directionFromNow (c .server) (c .server .place)) (c .server) still-next in
-      λ i. stateFrom (record { switches = c .switches; client = c .client; server = stays i; owed = c .owed - still-leaving i; opening = c .opening })
+      let down = choose-false (cleared (c .down)) (c .down) still-next in
+      λ i. stateFrom (withServer (withLayer server c (down i)) (stays i) (c .owed - still-leaving i) (c .opening))
       (s .command) (s .reply) (shifted (s .kinds) (still-leaving i) (c .owed))
 
   still-text : settledText s n ≡ []
   unfolding settledText answersText
   still-text =
       let none = either (λ (l : List ℕ). l ≡ []) (blocked (s .control)) [] (headAnswers (owedFrom s n)) refl (answers-none (owedFrom s n) none-behind) in
-      let stays = choose-false (take (s .control .server .held) (s .reply)) [] still-next in
+      let stays = choose-false (letGoOf server s) [] still-next in
       λ i. none i ++ stays i
 
 -- what is first once n kinds are removed
@@ -174,7 +177,7 @@ removes-within ReplyLine.Final (suc n) = rw (eqb·suc-zero n) (omega arith)
 
 -- ---- the LF of a plain line
 
-module _ (f : Fixed) (s : State) (place : s .control .server .place ≡ Place.Holding) (still : isStill (s .kinds) 0 (s .control .owed) ≡ true)
+module _ (f : Fixed) (s : State) (place : s .control .server .place ≡ Place.Holding) (clear : Clear server s) (still : isStill (s .kinds) 0 (s .control .owed) ≡ true)
     (size : s .control .owed ≤ length (s .kinds)) (r : ReplyLine) (read : r ≡ replyLine (s .control .opening) (content (take (s .control .server .held) (s .reply))))
     (keeps : keepsStill (s .kinds) (isOpen (s .control .opening)) (plainRemoves r (s .control .owed)) (s .control .owed) ≡ true) where
   abbrev n : ℕ
@@ -184,7 +187,7 @@ module _ (f : Fixed) (s : State) (place : s .control .server .place ≡ Place.Ho
   abbrev ended : State
   ended =
       let c = s .control in
-      stateFrom (record { switches = c .switches; client = c .client; server = at Place.Holding 0; owed = c .owed; opening = openingAfter (s .control .opening) r })
+      stateFrom (withServer c (at Place.Holding 0) (c .owed) (openingAfter (s .control .opening) r))
       (s .command) (s .reply) (s .kinds)
 
   abbrev pub answeredNext : State
@@ -202,31 +205,34 @@ module _ (f : Fixed) (s : State) (place : s .control .server .place ≡ Place.Ho
       ∙ (λ i. serverEffectOf (line-gives (s .kinds) (c .opening) (c .owed) still f r t keeps i) (at Place.Holding 0)
       (line-removes (s .kinds) (c .opening) (c .owed) still r i) (openingAfter (s .control .opening) r)))
 
-  pub server-line : octetStep f server s lf ≡ stepTo answeredNext [] (take (s .control .server .held) (s .reply) ++ (lf ∷ []))
-  unfolding octetStep serverStep serverState stored givesText
-  server-line =
+  line-ends : lineStep f server s lf ≡ stepTo answeredNext [] (passed (take (s .control .server .held) (s .reply)) ++ (lf ∷ []))
+  unfolding lineStep serverStep serverState stored givesText passed choose
+  line-ends =
       let behind = kept-still (s .kinds) (s .control .opening) (s .control .owed) still n keeps in
-      let line = take (s .control .server .held) (s .reply) ++ (lf ∷ []) in
+      let line = passed (take (s .control .server .held) (s .reply)) ++ (lf ∷ []) in
       rw line-effect ((λ i. record {
         state = still-state ended n size behind i;
         toServer = [];
         toClient = line ++ still-text ended n size behind i;
       }) ∙ ap (stepTo answeredNext []) (append-nil line))
 
+  pub server-line : octetStep f server s lf ≡ stepTo answeredNext [] (passed (take (s .control .server .held) (s .reply)) ++ (lf ∷ []))
+  server-line = octet-clear f s lf server clear refl ∙ line-ends
+
   -- the same as a run of one octet: out is the client's buffer then, and next the position behind the line
   module _ (l sb cb : List ℕ) (w : Written) (j : ℕ) (h : j < length l) (end : getD l j 0 ≡ lf) (line : List ℕ)
-      (text : line ≡ take (s .control .server .held) (s .reply)) (room : w .client + length line < length cb) (other : w .server ≤ length sb)
-      (next : ℕ) (out : List ℕ) (en : next ≡ positionAfter cb (w .client) (line ++ (lf ∷ []))) (eo : out ≡ putAt cb (w .client) (line ++ (lf ∷ []))) where
+      (text : line ≡ take (s .control .server .held) (s .reply)) (room : w .client + length (passed line) < length cb) (other : w .server ≤ length sb)
+      (next : ℕ) (out : List ℕ) (en : next ≡ positionAfter cb (w .client) (passed line ++ (lf ∷ []))) (eo : out ≡ putAt cb (w .client) (passed line ++ (lf ∷ []))) where
     pub server-ended : Ran f server l (coreFrom s sb cb w) j (coreFrom answeredNext sb out (record { server = w .server; client = next })) (j + 1)
     unfolding isQueueFull
     server-ended =
-        let x = line ++ (lf ∷ []) in
-        let long = length-append line (lf ∷ []) in
+        let x = passed line ++ (lf ∷ []) in
+        let long = length-append (passed line) (lf ∷ []) in
         let fits : w .client + length x ≤ length cb = omega arith in
         let at = en ∙ after-fits cb (w .client) x fits in
         let kept = nothing-put sb (w .server) .1 in
         let ws : w .server ≡ w .server + 0 = omega arith in
-        let step = server-line ∙ ap (λ (z : List ℕ). stepTo answeredNext [] (z ++ (lf ∷ []))) (sym text) in
+        let step = server-line ∙ ap (λ (z : List ℕ). stepTo answeredNext [] (passed z ++ (lf ∷ []))) (sym text) in
         record {
           toServer = [];
           toClient = x;
@@ -257,7 +263,7 @@ module _ (l : List ℕ) (i h m : ℕ) (u : ℕ) (lent out : List ℕ) (w : ℕ) 
       → AnsweredPlain l i h m u lent out w (record { more = false; taken = i; held = h; owed = m; opening = u; at = w }) lent out
   answered-none inside held owed written still =
       record {
-        ran = λ f c sb n room. ran-none f server l (coreLent (answeredControl c h m u) lent sb out (record { server = n; client = w })) i inside room written;
+        ran = λ f c _ sb n room. ran-none f server l (coreLent (answeredControl c h m u) lent sb out (record { server = n; client = w })) i inside room written;
         held = held;
         owed = owed;
         written = written;
@@ -270,9 +276,9 @@ module _ (l : List ℕ) (i h m : ℕ) (u : ℕ) (lent out : List ℕ) (w : ℕ) 
       → AnsweredPlain l i h m u lent out w r′ lent″ out″
   answered-then r r′ lent′ out′ lent″ out″ a b =
       record {
-        ran = λ f c sb n room.
+        ran = λ f c e sb n room.
             ran-then f server l _ (coreLent (answeredControl c (r .held) (r .owed) (r .opening)) lent′ sb out′ (record { server = n; client = r .at })) _
-            i (r .taken) (r′ .taken) (a .ran f c sb n room) (b .ran f c sb n room);
+            i (r .taken) (r′ .taken) (a .ran f c e sb n room) (b .ran f c e sb n room);
         held = b .held;
         owed = b .owed;
         written = b .written;
@@ -325,15 +331,15 @@ module _ (l : List ℕ) (i j h : ℕ) (lent p : List ℕ) (all : length lent ≡
       let long : lentReply + held - lentReply ≡ 0 + length ys = omega arith in
       sym (ap (take (lentReply + held - lentReply)) same ∙ (ap (λ (k : ℕ). take k (putAt line 0 ys)) long ∙ take-put-at line 0 ys (omega arith)))
 
-  pub reply-held : (m : ℕ) (u : ℕ) (out : List ℕ) (w : ℕ) → m ≤ mostOwed → w ≤ length out → isStill (kindsLent lent) 0 m ≡ true → every (isNot lf) ys ≡ true
+  pub reply-held : (m : ℕ) (u : ℕ) (out : List ℕ) (w : ℕ) → m ≤ mostOwed → w ≤ length out → isStill (kindsLent lent) 0 m ≡ true → every isOrdinary ys ≡ true
       → AnsweredPlain l i h m u lent out w (record { more = false; taken = j; held = held; owed = m; opening = u; at = w }) (putMid lentReply mostHeld lent p) out
   reply-held m u out w owed written still none =
       record {
-        ran = λ f c sb k other.
+        ran = λ f c clear sb k other.
             let s = stateLent (answeredControl c h m u) lent in
             let b : Written = record { server = k; client = w } in
             let before = reply-lent lent all in
-            let run = ran-held f server l (coreFrom s sb out b) i j forward inside (still-settled s still) (server-open s) other written held p refl none
+            let run = ran-held f server l (coreFrom s sb out b) i j forward inside (still-settled s still) clear (server-open s) other written held p refl none
             (omega (arith, line-size)) (sym (ap length before) ∙ line-size) refl (put ∙ ap (λ (z : List ℕ). putAt z h ys) before) in
             subst (λ (z : State). Ran f server l (coreFrom s sb out b) i (coreFrom z sb out b) j) (sym (reply-back lent all p part-size (answeredControl c held m u))) run;
         held = omega (arith, line-size);
@@ -347,9 +353,9 @@ module _ (l : List ℕ) (i j h : ℕ) (lent p : List ℕ) (all : length lent ≡
 module _ (l : List ℕ) (j n m : ℕ) (u : ℕ) (lent p out out′ : List ℕ) (w next k : ℕ) (v : ℕ) (all : length lent ≡ lentSize)
     (held : n ≤ mostHeld) (owed : m ≤ mostOwed) (still : isStill (kindsLent lent) 0 m ≡ true) (inside : j < length l) (end : getD l j 0 ≡ lf)
     (seen line : List ℕ) (es : seen ≡ take (lentReply + n - lentReply) (drop lentReply lent)) (el : line ≡ take (lentReply + n - lentReply) (drop lentReply lent))
-    (room : length seen < length out - w) (r : ReplyLine) (read : r ≡ replyLine u (content seen)) (ek : k ≡ plainRemoves r m) (ev : v ≡ openingAfter u r)
+    (room : length (passed seen) < length out - w) (r : ReplyLine) (read : r ≡ replyLine u (content seen)) (ek : k ≡ plainRemoves r m) (ev : v ≡ openingAfter u r)
     (keeps : keepsStill (kindsLent lent) (isOpen u) k m ≡ true)
-    (en : next ≡ positionAfter out w (line ++ (lf ∷ []))) (eo : out′ ≡ putAt out w (line ++ (lf ∷ []))) (put : p ≡ shifted (kindsLent lent) k m) where
+    (en : next ≡ positionAfter out w (passed line ++ (lf ∷ []))) (eo : out′ ≡ putAt out w (passed line ++ (lf ∷ []))) (put : p ≡ shifted (kindsLent lent) k m) where
   kinds-hold : m ≤ length (kindsLent lent)
   kinds-hold = omega (arith, kinds-size lent all)
 
@@ -362,21 +368,21 @@ module _ (l : List ℕ) (j n m : ℕ) (u : ℕ) (lent p out out′ : List ℕ) (
       let cut : lentReply + n - lentReply ≡ n = omega arith in
       e ∙ (λ i. take (cut i) (sym (drop-drop mostHeld lentCommand lent) i))
 
-  line-long : length line ≡ length seen
-  line-long = ap length (el ∙ sym es)
+  line-long : length (passed line) ≡ length (passed seen)
+  line-long = ap (λ (x : List ℕ). length (passed x)) (el ∙ sym es)
 
   pub reply-ended : AnsweredPlain l j n m u lent out w (record { more = true; taken = j + 1; held = 0; owed = m - k; opening = v; at = next }) (putMid lentKinds mostOwed lent p) out′
   reply-ended =
-      let x = line ++ (lf ∷ []) in
-      let fits : w + length x ≤ length out = omega (arith, line-long, length-append line (lf ∷ [])) in
+      let x = passed line ++ (lf ∷ []) in
+      let fits : w + length x ≤ length out = omega (arith, line-long, length-append (passed line) (lf ∷ [])) in
       record {
-        ran = λ f c sb a other.
+        ran = λ f c clear sb a other.
             let s = stateLent (answeredControl c n m u) lent in
             let b : Written = record { server = a; client = w } in
             let e : Written = record { server = a; client = next } in
             let lines = linesLent lent in
             let kinds = put ∙ ap (λ (q : ℕ). shifted (kindsLent lent) q m) ek in
-            let run = server-ended f s refl still kinds-hold r (read ∙ ap (λ (z : List ℕ). replyLine u (content z)) (as-held es))
+            let run = server-ended f s refl clear still kinds-hold r (read ∙ ap (λ (z : List ℕ). replyLine u (content z)) (as-held es))
             (subst (λ (q : ℕ). keepsStill (kindsLent lent) (isOpen u) q m ≡ true) ek keeps) l sb out b j inside end line (as-held el) (omega (arith, line-long)) other next out′ en eo in
             subst (λ (z : State). Ran f server l (coreFrom s sb out b) j (coreFrom z sb out′ e) (j + 1))
             (sym (kinds-back lent all p kinds-left (answeredControl c 0 (m - k) v)

@@ -10,8 +10,8 @@ use lib.Dec.{eqb}
 use lib.ListN.{length, take, drop, set, length-append, length-set}
 use lib.Seq.{set-split}
 use borrow.Author.Tests.{le-leb, not-true}
-use Rattle.rules.specs.Octets.{lf, choose, every, isNot}
-use Rattle.rules.specs.Lines.{judged}
+use Rattle.rules.specs.Octets.{lf, iac, choose, every, isNot}
+use Rattle.rules.specs.Lines.{judged, isOrdinary}
 use Rattle.rules.specs.Answers.{Side, client, server, isQueueFull, fits, stop}
 use Rattle.octets.proofs.Ranges.{and-both}
 use Rattle.output.specs.Buffer.{putAt}
@@ -25,6 +25,7 @@ use Rattle.steps.specs.Steps.{State, Step, octetStep}
 use Rattle.steps.specs.Takes.{Took, andThen, unlessStopped, stopOf, takes}
 use Rattle.steps.specs.Settled.{Settled}
 use Rattle.arrivals.specs.Runs.{prefixed, toServerOf, toClientOf, lineOf, withLine, holding, holdsMore, GivesOn, givesNothing, givesPassing, givesFlowing}
+use Rattle.steps.proofs.Through.{Clear}
 use Rattle.arrivals.proofs.Single.{stepTo, holding-kept, octet-passes, octet-flows, octet-held}
 
 -- number 1 is not given for the next octet
@@ -120,9 +121,12 @@ unfolding every
 every-any [] = refl
 every-any (x ∷ xs) = every-any xs
 
--- the octet is no LF
-no-lf : (x : ℕ) → isNot lf x ≡ true → eqb x lf ≡ false
-no-lf x e = not-true (eqb x lf) e
+-- an ordinary octet is no LF, and not 255
+no-lf : (x : ℕ) → isOrdinary x ≡ true → eqb x lf ≡ false
+no-lf x e = not-true (eqb x lf) (and-both (isNot lf x) (isNot iac x) e .0)
+
+no-iac : (x : ℕ) → isOrdinary x ≡ true → eqb x iac ≡ false
+no-iac x e = not-true (eqb x iac) (and-both (isNot lf x) (isNot iac x) e .1)
 
 pub server-open : (s : State) → Open server s
 unfolding isQueueFull
@@ -139,24 +143,32 @@ pub passes-run : (f : Fixed) (d : Side) (s : State) → Settled s → directionO
 passes-run f d s settled p xs ys m n =
     same-run f d s any ys (passing-open d s p) (λ x _. octet-passes f s x d settled p) xs m n (every-any xs)
 
--- Flowing: the same of octets that are no LF, while number 1 is not given.
-pub flows-run : (f : Fixed) (d : Side) (s : State) → Settled s → directionOf d (s .control) ≡ at Place.Flowing 0
-    → Open d s → (xs ys : List ℕ) (m n : ℕ) → every (isNot lf) xs ≡ true → GoOn f d s xs ys m n
-flows-run f d s settled p queue xs ys m n =
-    same-run f d s (isNot lf) ys queue (λ x e. octet-flows f s x d settled p (no-lf x e)) xs m n
+-- Flowing: the same of ordinary octets, while number 1 is not given and no Telnet command is unfinished.
+pub flows-run : (f : Fixed) (d : Side) (s : State) → Settled s → Clear d s → directionOf d (s .control) ≡ at Place.Flowing 0
+    → Open d s → (xs ys : List ℕ) (m n : ℕ) → every isOrdinary xs ≡ true → GoOn f d s xs ys m n
+flows-run f d s settled clear p queue xs ys m n =
+    same-run f d s isOrdinary ys queue (λ x e. octet-flows f s x d settled clear p (no-lf x e) (no-iac x e)) xs m n
 
 -- a test that no octet passes
 abbrev never : ℕ → Bool
 never x = false
 
 -- Whatever a direction gives on: nothing, or either.
-pub gives-run : (f : Fixed) (d : Side) (s : State) → Settled s → Open d s → (xs ys : List ℕ) (m n : ℕ)
+pub gives-run : (f : Fixed) (d : Side) (s : State) → Settled s → Clear d s → Open d s → (xs ys : List ℕ) (m n : ℕ)
     → GivesOn (directionOf d (s .control)) xs → GoOn f d s xs ys m n
 unfolding every
-gives-run f d s settled queue xs ys m n (givesNothing e) =
+gives-run f d s settled clear queue xs ys m n (givesNothing e) =
     same-run f d s never ys queue (λ x h. absurd (false≢true h)) xs m n (ap (every never) e)
-gives-run f d s settled queue xs ys m n (givesPassing p) = passes-run f d s settled p xs ys m n
-gives-run f d s settled queue xs ys m n (givesFlowing p t) = flows-run f d s settled p queue xs ys m n t
+gives-run f d s settled clear queue xs ys m n (givesPassing p) = passes-run f d s settled p xs ys m n
+gives-run f d s settled clear queue xs ys m n (givesFlowing p t) = flows-run f d s settled clear p queue xs ys m n t
+
+-- ordinary octets have no 255 among them
+pub no-iacs : (xs : List ℕ) → every isOrdinary xs ≡ true → every (isNot iac) xs ≡ true
+unfolding every
+no-iacs [] e = refl
+no-iacs (x ∷ xs) e =
+    let both = and-both (isOrdinary x) (every isOrdinary xs) e in
+    rw (and-both (isNot lf x) (isNot iac x) (both .0) .1, no-iacs xs (both .1))
 
 -- ---- octets that are held
 
@@ -174,9 +186,9 @@ holding-open client s k n line line′ queue = queue
 holding-open server s k n line line′ queue = queue
 
 -- by the number of octets held and the array, which change; s is any state with the rest of the record
-module _ (f : Fixed) (d : Side) (s : State) (ys : List ℕ) (m n : ℕ) where
+module _ (f : Fixed) (d : Side) (s : State) (clear : Clear d s) (ys : List ℕ) (m n : ℕ) where
   hold-run : (xs : List ℕ) (k : ℕ) (line : List ℕ) → Settled (holding d s k line) → Open d (holding d s k line)
-      → every (isNot lf) xs ≡ true → k + length xs < judged → k + length xs ≤ length line
+      → every isOrdinary xs ≡ true → k + length xs < judged → k + length xs ≤ length line
       → takes f d (holding d s k line) (xs ++ ys) m n
       ≡ prefixed (length xs) [] [] (takes f d (holding d s (k + length xs) (putAt line k xs)) ys m n)
   unfolding every
@@ -184,14 +196,14 @@ module _ (f : Fixed) (d : Side) (s : State) (ys : List ℕ) (m n : ℕ) where
       none-before (takes f d (holding d s k line) ys m n)
       ∙ (λ i. prefixed 0 [] [] (takes f d (holding d s (sym (add-zero k) i) (nothing-put line k .1 i)) ys m n))
   hold-run (x ∷ xs) k line settled queue t h g =
-      let both = and-both (isNot lf x) (every (isNot lf) xs) t in
+      let both = and-both (isOrdinary x) (every isOrdinary xs) t in
       let next = holding d s (k + 1) (set line k x) in
       let rest = hold-run xs (k + 1) (set line k x) (holding-kept d s k (k + 1) line (set line k x) settled)
       (holding-open d s k (k + 1) line (set line k x) queue) (both .1) (omega arith) (omega (arith, length-set line k x)) in
       let more : k + 1 + length xs ≡ k + suc (length xs) = omega arith in
       let r = takes f d (holding d s (k + suc (length xs)) (putAt line k (x ∷ xs))) ys m n in
       one-taken f d (holding d s k line) x (xs ++ ys) m n (stepTo next [] [])
-      (octet-held f s x d k line settled (no-lf x (both .0)) (omega arith)) queue (omega arith) (omega arith)
+      (octet-held f s x d k line settled clear (no-lf x (both .0)) (no-iac x (both .0)) (omega arith)) queue (omega arith) (omega arith)
       ∙ ap (andThen (stepTo next [] []))
       ((λ i. takes f d next (xs ++ ys) (sub-zero m i) (sub-zero n i))
       ∙ (rest ∙ (λ i. prefixed (length xs) [] [] (takes f d (holding d s (more i) (put-more line k x xs g i)) ys m n))))
@@ -203,14 +215,14 @@ held-same : (d : Side) (s : State) → directionOf d (s .control) .place ≡ Pla
 held-same client s p = λ i. withLine client s (at (p i) (s .control .client .held)) (s .command)
 held-same server s p = λ i. withLine server s (at (p i) (s .control .server .held)) (s .reply)
 
--- Holding: octets that are no LF while the line stays below the limit; nothing is written, whatever the room.
-pub holds-run : (f : Fixed) (d : Side) (s : State) → Settled s → directionOf d (s .control) .place ≡ Place.Holding
+-- Holding: ordinary octets while the line stays below the limit; nothing is written, whatever the room.
+pub holds-run : (f : Fixed) (d : Side) (s : State) → Settled s → Clear d s → directionOf d (s .control) .place ≡ Place.Holding
     → Open d s → (xs ys : List ℕ) (m n : ℕ)
-    → every (isNot lf) xs ≡ true → directionOf d (s .control) .held + length xs < judged
+    → every isOrdinary xs ≡ true → directionOf d (s .control) .held + length xs < judged
     → directionOf d (s .control) .held + length xs ≤ length (lineOf d s)
     → takes f d s (xs ++ ys) m n ≡ prefixed (length xs) [] [] (takes f d (holdsMore d s xs) ys m n)
-holds-run f d s settled p queue xs ys m n t h g =
+holds-run f d s settled clear p queue xs ys m n t h g =
     let same = held-same d s p in
     (λ i. takes f d (same i) (xs ++ ys) m n)
-    ∙ hold-run f d s ys m n xs (directionOf d (s .control) .held) (lineOf d s) (subst Settled same settled)
+    ∙ hold-run f d s clear ys m n xs (directionOf d (s .control) .held) (lineOf d s) (subst Settled same settled)
     (subst (Open d) same queue) t h g

@@ -8,6 +8,7 @@ use lib.ListN.{length, getD}
 use Rattle.rules.specs.Octets.{choose}
 use Rattle.rules.specs.Answers.{client, server, mostOwed}
 use Rattle.rules.specs.declared.ReplyLine.{ReplyLine}
+use Rattle.rules.specs.declared.Telnet.{Telnet}
 use Rattle.rules.specs.Lines.{mostHeld}
 use Rattle.places.specs.declared.Place.{Place}
 use Rattle.places.specs.Places.{at}
@@ -45,9 +46,10 @@ abbrev pub answeredControl : Control → ℕ → ℕ → ℕ → Control
 answeredControl c held owed opening = withServer c (at Place.Holding held) owed opening
 
 -- plain lines of a client that holds h octets, with m replies owed and w octets written, lead from i to where r says,
--- whatever the rest of the control and the client's buffer are; and the queue is still then
+-- whatever the rest of the control, in which no Telnet command of the client is unfinished, and the client's buffer are;
+-- and the queue is still then
 pub record SaidPlain (l : List ℕ) (i h m : ℕ) (lent out : List ℕ) (w : ℕ) (r : Said) (lent′ out′ : List ℕ) : Type 0 where
-  pub ran : (f : Fixed) (c : Control) (toClient : List ℕ) (n : ℕ) → n ≤ length toClient
+  pub ran : (f : Fixed) (c : Control) → c .up .telnet ≡ Telnet.Clear → (toClient : List ℕ) (n : ℕ) → n ≤ length toClient
       → Ran f client l (coreLent (saidControl c h m) lent out toClient (record { server = w; client = n })) i
       (coreLent (saidControl c (r .held) (r .owed)) lent′ out′ toClient (record { server = r .at; client = n })) (r .taken)
   pub held : r .held ≤ mostHeld
@@ -56,10 +58,11 @@ pub record SaidPlain (l : List ℕ) (i h m : ℕ) (lent out : List ℕ) (w : ℕ
   pub still : isStill (kindsLent lent′) 0 (r .owed) ≡ true
   pub addresses : addressesLent lent′ ≡ addressesLent lent
 
--- plain lines of the server, whatever the rest of the control and the server's buffer are
+-- plain lines of the server, whatever the rest of the control, in which no Telnet command of the server is unfinished, and the
+-- server's buffer are
 pub record AnsweredPlain (l : List ℕ) (i h m opening : ℕ) (lent out : List ℕ) (w : ℕ) (r : Answered)
     (lent′ out′ : List ℕ) : Type 0 where
-  pub ran : (f : Fixed) (c : Control) (toServer : List ℕ) (n : ℕ) → n ≤ length toServer
+  pub ran : (f : Fixed) (c : Control) → c .down .telnet ≡ Telnet.Clear → (toServer : List ℕ) (n : ℕ) → n ≤ length toServer
       → Ran f server l (coreLent (answeredControl c h m opening) lent toServer out (record { server = n; client = w })) i
       (coreLent (answeredControl c (r .held) (r .owed) (r .opening)) lent′ toServer out′ (record { server = n; client = r .at })) (r .taken)
   pub held : r .held ≤ mostHeld

@@ -4,7 +4,8 @@ use mathlib.Core.Path.{_≡_}
 use mathlib.Core.Bool.{true}
 use Prim.Native.Nat.{ℕ, _+_, _-_, _≤_}
 use lib.ListN.{length, take, drop}
-use Rattle.rules.specs.Octets.{lf, every, isNot}
+use Rattle.rules.specs.Octets.{every}
+use Rattle.rules.specs.Lines.{isOrdinary}
 use Rattle.rules.specs.Answers.{Side, client, server}
 use Rattle.output.specs.Buffer.{putAt}
 use Rattle.places.specs.declared.Place.{Place}
@@ -83,17 +84,17 @@ pub record Ran (f : Fixed) (d : Side) (l : List ℕ) (k : Core) (i : ℕ) (k′ 
 abbrev pub Quiet : Control → List ℕ → Type 0
 Quiet c kinds = (command reply : List ℕ) → Settled (stateFrom c command reply kinds)
 
--- octets that a direction gives on as they come: none; any where octets pass; those without LF of a line that flows
+-- octets that a direction gives on as they come: none; any where octets pass; ordinary ones of a line that flows
 pub data GivesOn (d : Direction) (xs : List ℕ) : Type 0 where
   givesNothing : xs ≡ [] → GivesOn d xs
   givesPassing : d ≡ at Place.Passing 0 → GivesOn d xs
-  givesFlowing : d ≡ at Place.Flowing 0 → every (isNot lf) xs ≡ true → GivesOn d xs
+  givesFlowing : d ≡ at Place.Flowing 0 → every isOrdinary xs ≡ true → GivesOn d xs
 
 -- what the octets xs do in one direction: they go behind the n octets of its buffer, or behind those of a line that it holds
 pub data Moved (xs : List ℕ) (d : Direction) (line out : List ℕ) (n : ℕ) (d′ : Direction) (line′ out′ : List ℕ) (n′ : ℕ) : Type 0 where
   movedOn : GivesOn d xs → n + length xs ≤ length out → d′ ≡ d → line′ ≡ line → out′ ≡ putAt out n xs → n′ ≡ n + length xs
       → Moved xs d line out n d′ line′ out′ n′
-  movedBehind : d .place ≡ Place.Holding → every (isNot lf) xs ≡ true → d .held + length xs ≤ length line
+  movedBehind : d .place ≡ Place.Holding → every isOrdinary xs ≡ true → d .held + length xs ≤ length line
       → d′ ≡ at Place.Holding (d .held + length xs) → line′ ≡ putAt line (d .held) xs → out′ ≡ out → n′ ≡ n
       → Moved xs d line out n d′ line′ out′ n′
 

@@ -18,6 +18,7 @@ use records::layout::LENT_COMMAND;
 use records::layout::LENT_KINDS;
 use records::layout::LENT_SIZE;
 use rules::Answer;
+use rules::Layer;
 use rules::Switches;
 use rules::number_of;
 use running::RunPart;
@@ -182,6 +183,10 @@ fn rebuilt(control: Control) -> Control
     let server = control.server;
     let client_place = client.place;
     let server_place = server.place;
+    let up = control.up;
+    let down = control.down;
+    let said = up.telnet;
+    let answered = down.telnet;
     Control {
         switches: Switches {
             epsv: switches.epsv,
@@ -197,11 +202,19 @@ fn rebuilt(control: Control) -> Control
         },
         owed: control.owed,
         opening: control.opening,
+        up: Layer {
+            telnet: said,
+            removed: up.removed,
+        },
+        down: Layer {
+            telnet: answered,
+            removed: down.removed,
+        },
     }
 }
 
 // Plain lines from i on, and a run behind them. An LF begins no run of held or flowing octets, so none is looked for;
-// where octets pass, it goes by itself and the run begins behind it.
+// where octets pass, it goes by itself and the run begins behind it. So does a 255, which no run of a line has.
 fn next_run(
     from_client: bool,
     control: Control,

@@ -2,13 +2,16 @@
 // lines are such. They are taken here with a few numbers in hand; any other goes the way of every octet. A plain line
 // of the client owes a plain kind, but others do too: a translated EPRT is no plain line.
 ghost use mathlib.Core.Path.{_≡_};
-ghost use mathlib.Core.Bool.{true, false};
-ghost use mathlib.Core.List.{List};
+ghost use mathlib.Core.Bool.{true, false, _&&_};
+ghost use mathlib.Core.List.{List, [], _∷_, _++_};
 ghost use Prim.Native.Nat.{ℕ, _+_, _-_, _≤_, _<_};
 ghost use lib.ListN.{length, getD};
-ghost use Rattle.rules.specs.Octets.{lf};
+ghost use Rattle.rules.specs.Octets.{lf, iac, isNot, every};
 ghost use Rattle.rules.specs.Answers.{client, server, mostOwed};
 ghost use Rattle.rules.specs.Lines.{mostHeld};
+ghost use Rattle.rules.specs.Telnet.{isClear};
+ghost use Rattle.output.specs.Buffer.{Put};
+ghost use Rattle.places.specs.Places.{isHolding};
 ghost use Rattle.records.specs.Layout.{lentSize};
 ghost use Rattle.rules.specs.declared.Fixed.{Fixed};
 ghost use Rattle.records.specs.Sound.{sideIf, Counted};
@@ -19,8 +22,7 @@ ghost use Rattle.queue.specs.Kinds.{isStill};
 ghost use Rattle.arrivals.specs.PlainRuns.{isPlainFirst, plainRemoves, keepsStill, SaidPlain, AnsweredPlain};
 use crate::running::RunPart;
 use crate::running::hold_run;
-use gives::passed_length;
-use gives::put_line;
+use output::put;
 use places::Direction;
 use places::LF;
 use places::Place;
@@ -36,7 +38,10 @@ use records::with_client;
 use records::with_server;
 use rules::OWED;
 use rules::ReplyLine;
+use rules::Telnet;
+use search::find_iac;
 use steps::Written;
+use telnet::is_clear;
 
 // How far one plain line of the client, or several, reach, and whether another may follow; and how many octets are
 // held, replies owed and octets written then.
@@ -70,11 +75,28 @@ fn text<'a>(held: usize, part: &'a [u8], line: &'a [u8]) -> &'a [u8]
     line
 }
 
-// An LF stands at j, and there is room for it and the n octets that the line before it gives.
-fn may_end(octets: &[u8], j: usize, n: usize, room: usize) -> bool
+// Octets as they are, and an LF.
+fn put_ended(out: &mut [u8], at: usize, octets: &[u8]) -> usize
+    ensures { λ r. ⌜ Put (now (out .entry)) at (now (octets .entry) ++ (lf ∷ [])) r (now (out .exit)) ⌝ }
+{
+    if out.len() < at {
+        return at;
+    }
+    if out.len() - at <= octets.len() {
+        return at;
+    }
+    let next = put(out, at, octets);
+    put(out, next, &[LF])
+}
+
+// A line ends with the LF at j and leaves as it came, into so much room: no octet of it is 255, which would leave
+// doubled. Only octets held before are searched, those that arrived are ordinary.
+fn may_end(octets: &[u8], j: usize, before: usize, line: &[u8], room: usize) -> bool
+    requires { ⌜ (before ≡ 0 → every (isNot iac) (now line) ≡ true) ⌝ }
     ensures { λ r.
         let l = now (octets .entry) in
-        ⌜ (r ≡ true → (j < length l) × (getD l j 0 ≡ lf) × (n < room)) ⌝ }
+        let text = now (line .entry) in
+        ⌜ (r ≡ true → (j < length l) × (getD l j 0 ≡ lf) × (length text < room) × (every (isNot iac) text ≡ true)) ⌝ }
 {
     if octets.len() <= j {
         return false;
@@ -82,7 +104,13 @@ fn may_end(octets: &[u8], j: usize, n: usize, room: usize) -> bool
     if octets[j] != LF {
         return false;
     }
-    n < room
+    if room <= line.len() {
+        return false;
+    }
+    if before == 0 {
+        return true;
+    }
+    line.len() <= find_iac(line, 0)
 }
 
 // The octets of a client line from i on, and its end if it is plain.
@@ -105,9 +133,9 @@ fn client_line(
     let j = hold_run(octets, i, &mut lent[LENT_COMMAND..LENT_REPLY], held);
     let n = held + (j - i);
     let line = text(held, &octets[i..j], &lent[LENT_COMMAND..LENT_COMMAND + n]);
-    if may_end(octets, j, passed_length(line), to_server.len() - at) {
+    if may_end(octets, j, held, line, to_server.len() - at) {
         if commands::is_plain(line) {
-            let next = put_line(to_server, at, line, LF);
+            let next = put_ended(to_server, at, line);
             lent[LENT_KINDS + owed] = 0;
             return Said {
                 more: true,
@@ -225,13 +253,13 @@ fn server_line(
     let j = hold_run(octets, i, &mut lent[LENT_REPLY..LENT_SIZE], held);
     let n = held + (j - i);
     let read = text(held, &octets[i..j], &lent[LENT_REPLY..LENT_REPLY + n]);
-    if may_end(octets, j, passed_length(read), to_client.len() - at) {
+    if may_end(octets, j, held, read, to_client.len() - at) {
         let reply = replies::reply_line(opening, lines::content(read));
         let removes = removed(reply, owed);
         if keeps_still(&lent[LENT_KINDS..LENT_COMMAND], opening != 0, removes, owed) {
             // Asked for again: the kinds were lent in between.
             let line = text(held, &octets[i..j], &lent[LENT_REPLY..LENT_REPLY + n]);
-            let next = put_line(to_client, at, line, LF);
+            let next = put_ended(to_client, at, line);
             shift(&mut lent[LENT_KINDS..LENT_COMMAND], removes, owed);
             return Answered {
                 more: true,
@@ -297,6 +325,16 @@ fn server_lines(
     }
 }
 
+// A direction holds its octets, and no Telnet command of it is unfinished.
+fn may_run(direction: Direction, telnet: Telnet) -> bool
+    ensures { λ r. ⌜ r ≡ (isHolding (direction .place) && isClear telnet) ⌝ }
+{
+    if !is_holding(direction) {
+        return false;
+    }
+    is_clear(telnet)
+}
+
 // Plain lines of the client from i on, where it holds its octets.
 fn plain_commands(
     control: Control,
@@ -319,7 +357,9 @@ fn plain_commands(
     ensures fixed { λ _. ⌜ addressesLent (now (lent .exit)) ≡ addressesLent (now (lent .entry)) ⌝ }
 {
     let direction = control.client;
-    if !is_holding(direction) {
+    let layer = control.up;
+    let telnet = layer.telnet;
+    if !may_run(direction, telnet) {
         return RunPart {
             taken: i,
             control,
@@ -371,7 +411,9 @@ fn plain_replies(
     ensures fixed { λ _. ⌜ addressesLent (now (lent .exit)) ≡ addressesLent (now (lent .entry)) ⌝ }
 {
     let direction = control.server;
-    if !is_holding(direction) {
+    let layer = control.down;
+    let telnet = layer.telnet;
+    if !may_run(direction, telnet) {
         return RunPart {
             taken: i,
             control,

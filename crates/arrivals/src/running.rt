@@ -4,7 +4,8 @@ ghost use mathlib.Core.Path.{_≡_};
 ghost use mathlib.Core.Bool.{true};
 ghost use Prim.Native.Nat.{_+_, _-_, _≤_};
 ghost use lib.ListN.{length, take, drop};
-ghost use Rattle.rules.specs.Octets.{every, isNot, lf};
+ghost use Rattle.rules.specs.Octets.{every};
+ghost use Rattle.rules.specs.Lines.{isOrdinary};
 ghost use Rattle.records.specs.Layout.{linesSize};
 ghost use Rattle.output.specs.Buffer.{putAt};
 ghost use Rattle.rules.specs.declared.Fixed.{Fixed};
@@ -22,13 +23,16 @@ use places::is_passing;
 use queue::planned;
 use records::Control;
 use records::blocked;
+use records::layer_of;
 use records::queue_full;
 use records::with_client;
 use records::with_server;
 use rules::HELD;
 use rules::Kinds;
-use search::find_lf;
+use search::is_ordinary;
+use search::ordinary_end;
 use steps::Written;
+use telnet::is_clear;
 
 // How far a run goes, and the control and the counts then.
 pub struct RunPart {
@@ -60,6 +64,11 @@ fn is_settled(control: Control, kinds: Kinds) -> bool
     if server.held != 0 {
         return false;
     }
+    let down = control.down;
+    let unfinished = down.telnet;
+    if !is_clear(unfinished) {
+        return false;
+    }
     if is_passing(server) {
         return true;
     }
@@ -76,28 +85,35 @@ fn least(a: usize, b: usize) -> usize
     b
 }
 
-// Where the octets from i on that are no LF end, or where `most` of them do. Only so far is searched: else a long
-// arrival would be searched to its end for each line or room that is full before.
-fn no_lf_end(octets: &[u8], i: usize, most: usize) -> usize
+// Where the ordinary octets from i on end, those that are neither LF nor 255, or where `most` of them do. Only so far
+// is searched: else a long arrival would be searched to its end for each line or room that is full before.
+fn run_end(octets: &[u8], i: usize, most: usize) -> usize
     requires { ⌜ i ≤ length (now octets) ⌝ }
     ensures within { λ r. ⌜ (i ≤ r) × (r ≤ length (now (octets .entry))) × (r - i ≤ most) ⌝ }
-    ensures run { λ r. ⌜ every (isNot lf) (take (r - i) (drop i (now (octets .entry)))) ≡ true ⌝ }
+    ensures run { λ r. ⌜ every isOrdinary (take (r - i) (drop i (now (octets .entry)))) ≡ true ⌝ }
 {
     let e = i + least(octets.len() - i, most);
-    let n = find_lf(&octets[i..e], 0);
+    // An octet that arrives alone is looked at here, which costs less than a search.
+    if e - i == 1 {
+        if is_ordinary(octets[i]) {
+            return e;
+        }
+        return i;
+    }
+    let n = ordinary_end(&octets[i..e], 0);
     i + n
 }
 
-// The octets from i on that are no LF, as many as may be held, are put behind those held; where they end.
+// The ordinary octets from i on, as many as may be held, are put behind those held; where they end.
 pub fn hold_run(octets: &[u8], i: usize, line: &mut [u8], held: usize) -> usize
     requires { ⌜ (i ≤ length (now octets)) × (held ≤ length (now line)) ⌝ }
     ensures within { λ r.
         ⌜ (i ≤ r) × (r ≤ length (now (octets .entry))) × (held + (r - i) ≤ length (now (line .entry))) ⌝ }
-    ensures run { λ r. ⌜ every (isNot lf) (take (r - i) (drop i (now (octets .entry)))) ≡ true ⌝ }
+    ensures run { λ r. ⌜ every isOrdinary (take (r - i) (drop i (now (octets .entry)))) ≡ true ⌝ }
     ensures buffer { λ r.
         ⌜ now (line .exit) ≡ putAt (now (line .entry)) held (take (r - i) (drop i (now (octets .entry)))) ⌝ }
 {
-    let j = no_lf_end(octets, i, line.len() - held);
+    let j = run_end(octets, i, line.len() - held);
     put(line, held, &octets[i..j]);
     j
 }
@@ -114,7 +130,7 @@ fn given_end(direction: Direction, octets: &[u8], i: usize, most: usize) -> usiz
         return i;
     }
     if is_flowing(direction) {
-        return no_lf_end(octets, i, most);
+        return run_end(octets, i, most);
     }
     if is_passing(direction) {
         return i + least(octets.len() - i, most);
@@ -160,8 +176,8 @@ fn direction_run(
     }
 }
 
-// A run of a direction's octets from i on, if one begins there: number 1 is not given for it, and nothing is left to
-// settle.
+// A run of a direction's octets from i on, if one begins there: number 1 is not given for it, no Telnet command is
+// unfinished, and nothing is left to settle.
 pub fn any_run(
     from_client: bool,
     control: Control,
@@ -188,6 +204,11 @@ pub fn any_run(
         written,
     };
     if queue_full(from_client, control) {
+        return none;
+    }
+    let layer = layer_of(control, from_client);
+    let telnet = layer.telnet;
+    if !is_clear(telnet) {
         return none;
     }
     if !is_settled(control, kinds) {

@@ -20,7 +20,7 @@ module _ (f : Fixed) (u : ℕ) (o : Owes) where
   server-place d line x e = ap (λ (p : Place). replyEffect f u o p (d .held) line (eqb x lf)) (sym e)
 
   pub server-flowing : (held : ℕ) (line : List ℕ) (b : Bool)
-      → choose b (flowingLine u o line) (serverEffectOf Gives.Octet (at Place.Flowing 0) 0 u) ≡ replyEffect f u o Place.Flowing held line b
+      → choose b (flowingLine u o line) (serverEffectOf Gives.LineOctet (at Place.Flowing 0) 0 u) ≡ replyEffect f u o Place.Flowing held line b
   unfolding replyEffect choose
   server-flowing held line true = refl
   server-flowing held line false = refl

@@ -78,7 +78,7 @@ wholeLine f opening o c =
 unfoldable pub flowingLine : ℕ → Owes → List ℕ → ServerEffect
 flowingLine opening o line =
     let r = replyLine opening (take 4 line) in
-    serverEffectOf Gives.Octet (at Place.Holding 0) (lineRemoves r o) (openingAfter opening r)
+    serverEffectOf Gives.LineOctet (at Place.Holding 0) (lineRemoves r o) (openingAfter opening r)
 
 -- another octet of a held line: it is held, or lets the line go
 unfoldable pub replyOctet : ℕ → ℕ → ServerEffect
@@ -91,7 +91,7 @@ unfoldable pub replyEffect : Fixed → ℕ → Owes → Place → ℕ → List �
 replyEffect f opening o Place.Holding held line true = wholeLine f opening o (content (take held line))
 replyEffect f opening o Place.Holding held line false = replyOctet opening held
 replyEffect f opening o Place.Flowing held line true = flowingLine opening o line
-replyEffect f opening o Place.Flowing held line false = serverEffectOf Gives.Octet (at Place.Flowing 0) 0 opening
+replyEffect f opening o Place.Flowing held line false = serverEffectOf Gives.LineOctet (at Place.Flowing 0) 0 opening
 replyEffect f opening o Place.Passing held line b = serverEffectOf Gives.Octet (at Place.Passing 0) 0 opening
 replyEffect f opening o Place.Ended held line b = serverEffectOf Gives.Nothing (at Place.Ended 0) 0 opening
 

@@ -139,7 +139,7 @@ fn flowing_line(opening: u32, first: Owes, line: &[u8]) -> ServerEffect
 {
     let reply = replies::reply_line(opening, first_octets(line, 4));
     ServerEffect {
-        gives: Gives::Octet,
+        gives: Gives::LineOctet,
         direction: Direction {
             place: Place::Holding,
             held: 0,
@@ -197,12 +197,12 @@ fn hold_reply(
 fn flow_reply(opening: u32, first: Owes, line: &[u8], x: u8) -> ServerEffect
     ensures { λ r.
         ⌜ r ≡ choose (eqb x lf) (flowingLine opening first (now (line .entry)))
-        (serverEffectOf Gives.Octet (directionAt Place.Flowing 0) 0 opening) ⌝ }
+        (serverEffectOf Gives.LineOctet (directionAt Place.Flowing 0) 0 opening) ⌝ }
 {
     if x == LF {
         return flowing_line(opening, first, line);
     }
-    unremoved(Gives::Octet, Place::Flowing, 0, opening)
+    unremoved(Gives::LineOctet, Place::Flowing, 0, opening)
 }
 
 // What a server octet x does, with the first kind owed; `line` is the array that holds the server's octets.

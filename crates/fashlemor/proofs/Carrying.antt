@@ -31,7 +31,7 @@ use Rattle.answers.proofs.Refusals.{sound-words}
 use Rattle.answers.proofs.Lengths.{octet-at, octets-all}
 use Rattle.answers.proofs.Kept.{calls-keep, fresh-kept}
 use Rattle.answers.proofs.Table.{refused-untouched, end-two, end-two-untouched, five, setup-zero}
-use Rattle.image.specs.Image.{imageOf, fieldsIn, isImage, sessionOf, Sized, Wrapped}
+use Rattle.image.specs.Image.{imageOf, fieldsIn, isImage, sessionOf, Sized, Numbered, Wrapped}
 use Rattle.image.proofs.Writing.{image-length}
 use Rattle.image.proofs.Back.{read-back}
 use Rattle.image.proofs.Again.{record-lies}
@@ -43,6 +43,9 @@ sizes : (s : Session) → Shaped s → length (s .fixed .client) ≡ ipv6Width �
 unfolding judged
 sizes s h e = record { client = e; mapped = h .mapped; kinds = h .kinds; command = h .command; reply = h .reply }
 
+numbers : (s : Session) → Shaped s → Numbered (s .control)
+numbers s h = record { opening = h .opening; up = h .removedUp; down = h .removedDown }
+
 -- a record that is put into memory with room for it is held there
 put-holds : (image : List ℕ) (s : Session) → imageSize ≤ length image → Shaped s → length (s .fixed .client) ≡ ipv6Width → Wrapped (s .up) → Wrapped (s .down)
     → Sound s → Holds (putAt image 0 (imageOf s)) s
@@ -52,7 +55,7 @@ put-holds image s room shape e up down w =
     let fits : length (imageOf s) ≤ length image = omega arith in
     record {
       room = omega (arith, length-put image 0 (imageOf s) (omega arith));
-      read = rw (front-put image (imageOf s) fits) (read-back s (drop (length (imageOf s)) image) size (shape .opening) up down (sound-words s .1 w));
+      read = rw (front-put image (imageOf s) fits) (read-back s (drop (length (imageOf s)) image) size (numbers s shape) up down (sound-words s .1 w));
       shaped = shape;
       client = e;
       up = up;

@@ -4,6 +4,7 @@ use Rattle.rules.specs.Octets.{octets-opened}
 use Rattle.rules.specs.Answers.{answers-opened}
 use Rattle.rules.specs.Setup.{setup-opened}
 use Rattle.rules.specs.Lines.{lines-opened}
+use Rattle.rules.specs.Telnet.{telnet-opened}
 use Rattle.rules.specs.Address.{address-opened}
 use Rattle.rules.specs.Commands.{commands-opened}
 use Rattle.rules.specs.Replies.{replies-opened}
@@ -21,5 +22,5 @@ use Rattle.fields.specs.Report.{report, report-opened}
 use Rattle.fields.specs.Printed.{printedFile, printedReport, printed-opened}
 
 pub printed : report printedFile ≡ printedReport
-unfolding octets-opened answers-opened setup-opened lines-opened address-opened commands-opened replies-opened exchanges-opened kinds-opened gives-opened places-opened sound-opened upstream-opened downstream-opened steps-opened calls-opened contents-opened report-opened printed-opened
+unfolding octets-opened answers-opened setup-opened lines-opened telnet-opened address-opened commands-opened replies-opened exchanges-opened kinds-opened gives-opened places-opened sound-opened upstream-opened downstream-opened steps-opened calls-opened contents-opened report-opened printed-opened
 printed = refl

@@ -13,7 +13,9 @@ use records::Session;
 use rules::HELD;
 use rules::IPV4;
 use rules::IPV6;
+use rules::Layer;
 use rules::Setup;
+use rules::Telnet;
 use rules::number_of;
 use session::Called;
 
@@ -39,6 +41,7 @@ fn main() {
     try_all(with_kind(fresh, 1, 9));
     try_all(with_control(fresh, owing(fresh, 16)));
     try_places(fresh, Place::Holding, HELD);
+    try_all(with_control(fresh, unfinished_and_passing(fresh)));
     io::write_all(STDOUT_FILENO, b"no such direction\n");
     try_call(dead(fresh), 2);
 }
@@ -67,33 +70,32 @@ fn owing(session: Session, owed: usize) -> Control {
     c
 }
 
+// The client's octets pass at once, though a Telnet command of the client is unfinished: nothing written depends on
+// that.
+fn unfinished_and_passing(session: Session) -> Control {
+    let passing = Direction {
+        place: Place::Passing,
+        held: 0,
+    };
+    let begun = Layer {
+        telnet: Telnet::Iac,
+        removed: 0,
+    };
+    let mut c = session.control;
+    c.client = passing;
+    c.up = begun;
+    c
+}
+
 // Both directions forged, each by itself.
 fn try_places(session: Session, place: Place, held: usize) {
-    let c = session.control;
-    let switches = c.switches;
-    let client = c.client;
-    let server = c.server;
     let forged = Direction { place, held };
-    try_all(with_control(
-        session,
-        Control {
-            switches,
-            client: forged,
-            server,
-            owed: c.owed,
-            opening: c.opening,
-        },
-    ));
-    try_all(with_control(
-        session,
-        Control {
-            switches,
-            client,
-            server: forged,
-            owed: c.owed,
-            opening: c.opening,
-        },
-    ));
+    let mut said = session.control;
+    said.client = forged;
+    try_all(with_control(session, said));
+    let mut answered = session.control;
+    answered.server = forged;
+    try_all(with_control(session, answered));
 }
 
 fn try_all(session: Session) {

@@ -10,6 +10,7 @@ use Rattle.rules.specs.Setup.{setupSwitches}
 use Rattle.rules.specs.Edition.{document01}
 use Rattle.rules.specs.History.{Item, textOf, hasEnded}
 use Rattle.rules.specs.ToServer.{toServer as readServer}
+use Rattle.rules.specs.Items.{Piece}
 use Rattle.rules.specs.Demand3.{
   Call,
   arrival,
@@ -24,6 +25,7 @@ use Rattle.rules.specs.Demand3.{
   historyOf,
   goneToServer,
   goneToClient,
+  piecesOf,
   SameHistory,
   SameClient,
   OnlyAdds,
@@ -39,11 +41,11 @@ use Rattle.records.specs.declared.Session.{Session}
 use Rattle.rules.specs.declared.Fixed.{Fixed}
 use Rattle.steps.specs.Steps.{State, Step, octetStep}
 use Rattle.steps.specs.Takes.{Took, stopOf, takes}
-use Rattle.session.specs.Calls.{stateOf, Outcome, refused, outcome, arrived, endOutcome, endCalled as sessionEnded}
+use Rattle.session.specs.Calls.{stateOf, Outcome, refused, outcome, arrived, endStep, endOutcome, endCalled as sessionEnded}
 use Rattle.steps.proofs.Stops.{stop-cases, unless-stopped}
-use Rattle.history.specs.Gateway.{outcomeOf, gateway}
-use Rattle.history.proofs.ByOctets.{reading-grows}
-use Rattle.history.proofs.Calls.{unless-refused, refused-items}
+use Rattle.readings.proofs.Readings.{reading-grows}
+use Rattle.history.specs.Gateway.{octetPieces, callPieces, outcomeOf, gateway}
+use Rattle.history.proofs.Calls.{unless-refused, refused-end}
 use Rattle.history.proofs.Fresh.{fresh-there, only-fresh, returns}
 use Rattle.history.proofs.Demand3.{demand3}
 
@@ -107,33 +109,38 @@ if-refused r (arrival d xs s c) =
     (λ e h. absurd (true≢false (sym h ∙ takes-answer (r .fixed) (sideOf d) (stateOf r) xs (length s) (length c))))
 if-refused r (ending d s c) = unless-refused (IfRefused r) r d _ (λ a e h. refused-same r a) (λ e h. end-answer r (sideOf d) _ _ h)
 
+-- it adds nothing to the history, and has no pieces
+no-items : (r : Session) (c : Call) (t : Return Session) → t .taken ≡ 0 → isRefusal (t .answer) ≡ true
+    → (itemsOf gateway c t ≡ []) × (callPieces r c (t .answer) (t .taken) ≡ [])
+unfolding octetPieces
+no-items r (arrival d xs s b) t n e = (rw n, rw n)
+no-items r (ending d s b) t n e = refused-end (t .answer) (sideOf d) (endStep (sideOf d) (stateOf r)) e
+
 pub refusals-leave-all : RefusalsLeaveAll gateway
 unfolding refused
 refusals-leave-all r c t p e =
     let o : Outcome = outcomeOf r c in
     let same : o ≡ refused (o .called .answer) r = if-refused r c (rw (p .answer) at e) in
+    let taken : t .taken ≡ 0 = p .taken ∙ ap (λ (x : Outcome). x .called .taken) same in
     record {
-      taken = p .taken ∙ ap (λ (x : Outcome). x .called .taken) same;
+      taken = taken;
       toServer = p .toServer ∙ ap (λ (x : Outcome). x .called .written .server) same;
       toClient = p .toClient ∙ ap (λ (x : Outcome). x .called .written .client) same;
       session = p .session ∙ ap (λ (x : Outcome). x .called .session) same;
       serverBuffer = p .serverBuffer ∙ rw (p .toServer) (ap (λ (x : Outcome). x .toServer ++ drop (x .called .written .server) (lentServer c)) same);
       clientBuffer = p .clientBuffer ∙ rw (p .toClient) (ap (λ (x : Outcome). x .toClient ++ drop (x .called .written .client) (lentClient c)) same);
+      pieces = p .pieces ∙ no-items r c t taken e .1;
     }
-
--- it adds nothing to the history
-no-items : (c : Call) (t : Return Session) → t .taken ≡ 0 → isRefusal (t .answer) ≡ true → itemsOf gateway c t ≡ []
-no-items (arrival d xs s b) t n e = rw n
-no-items (ending d s b) t n e = refused-items (t .answer) (sideOf d) e
 
 pub refused-changes-nothing : RefusedChangesNothing gateway
 refused-changes-nothing r z [] m c t (next p rest) e =
     let n : LeftAlone gateway r c t = refusals-leave-all r c t p e in
     record {
       calls = subst (λ (x : Session). Calls gateway x m z) (n .session) rest;
-      history = ap (λ (is : List Item). is ++ historyOf gateway m) (no-items c t (n .taken) e);
+      history = ap (λ (is : List Item). is ++ historyOf gateway m) (no-items r c t (n .taken) e .0);
       toServer = ap (λ (k : ℕ). take k (t .serverBuffer) ++ goneToServer gateway m) (n .toServer);
       toClient = ap (λ (k : ℕ). take k (t .clientBuffer) ++ goneToClient gateway m) (n .toClient);
+      pieces = ap (λ (ps : List Piece). ps ++ piecesOf gateway m) (n .pieces);
     }
 refused-changes-nothing r z ((d, u) ∷ l) m c t (next p rest) e =
     let n : SameWithout gateway (u .session) z l m c t = refused-changes-nothing (u .session) z l m c t rest e in
@@ -142,4 +149,5 @@ refused-changes-nothing r z ((d, u) ∷ l) m c t (next p rest) e =
       history = ap (λ (is : List Item). itemsOf gateway d u ++ is) (n .history);
       toServer = ap (λ (w : List ℕ). take (u .toServer) (u .serverBuffer) ++ w) (n .toServer);
       toClient = ap (λ (w : List ℕ). take (u .toClient) (u .clientBuffer) ++ w) (n .toClient);
+      pieces = ap (λ (ps : List Piece). u .pieces ++ ps) (n .pieces);
     }

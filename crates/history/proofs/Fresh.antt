@@ -6,14 +6,14 @@ use Prim.Native.Nat.{ℕ, _-_}
 use native.Mathlib.Omega.{arith}
 use lib.ListN.{drop, length-replicate}
 use Rattle.rules.specs.Octets.{lf, choose}
-use Rattle.rules.specs.Lines.{judged, mostHeld, content}
+use Rattle.rules.specs.Lines.{judged, mostHeld, passed, content}
 use Rattle.rules.specs.Setup.{setupSwitches, badFlags, setupAnswer, fixedBy}
 use Rattle.rules.specs.declared.Setup.{Setup}
 use Rattle.rules.specs.Answers.{answerNumber}
 use Rattle.rules.specs.Commands.{command, commandGives}
 use Rattle.rules.specs.Replies.{passiveReply, passiveGives, finalGives}
 use Rattle.rules.specs.Edition.{clientLineOf, document01}
-use Rattle.rules.specs.ToClient.{freshClient, freshServer}
+use Rattle.rules.specs.Items.{freshMoment}
 use Rattle.rules.specs.Demand3.{Call, Return, lentServer, lentClient}
 use Rattle.rules.specs.declared.Answer.{Answer}
 use Rattle.rules.specs.declared.Command.{Command}
@@ -24,14 +24,15 @@ use Rattle.gives.specs.Text.{givesText}
 use Rattle.upstream.specs.Upstream.{commandEffect}
 use Rattle.downstream.specs.Downstream.{kindEffect, passiveEffect}
 use Rattle.rules.specs.declared.Fixed.{Fixed}
+use Rattle.session.specs.declared.Called.{Called}
 use Rattle.session.specs.Calls.{Outcome, prepared, freshSession}
-use Rattle.history.specs.Gateway.{Fresh, Promise, outcomeOf}
+use Rattle.history.specs.Gateway.{Fresh, returned, Promise, outcomeOf}
 use Rattle.history.proofs.Queue.{queue-fresh}
 use Rattle.history.proofs.Places.{Agrees, begins}
 use Rattle.history.proofs.Calls.{Stays}
 
 command-gives : (f : Fixed) (l : List ℕ) (k : Command) → givesText f l lf (commandEffect k) ≡ commandGives f l k
-unfolding givesText commandEffect commandGives
+unfolding givesText commandEffect commandGives passed choose
 command-gives f l Command.Passes = refl
 command-gives f l Command.Passive = refl
 command-gives f l (Command.Port p) = refl
@@ -39,12 +40,12 @@ command-gives f l (Command.Answered a) = refl
 command-gives f l Command.Auth = refl
 
 passive-gives : (f : Fixed) (l : List ℕ) (r : PassiveReply) → givesText f l lf (passiveEffect r) ≡ passiveGives l r
-unfolding givesText passiveEffect passiveGives
+unfolding givesText passiveEffect passiveGives passed choose
 passive-gives f l (PassiveReply.Port p) = refl
 passive-gives f l PassiveReply.Unreadable = refl
 
 final-gives : (f : Fixed) (k : Kind) (l : List ℕ) → givesText f l lf (kindEffect f k (content l)) ≡ finalGives k l
-unfolding givesText kindEffect finalGives
+unfolding givesText kindEffect finalGives passed choose
 final-gives f Kind.Plain l = refl
 final-gives f Kind.TranslatedEpsv l = passive-gives f l (passiveReply (content l))
 final-gives f (Kind.Own a) l = refl
@@ -80,17 +81,10 @@ only-fresh su r h = h .answer
 -- every call returns
 pub returns : (r : Session) (c : Call) → (t : Return Session) × Promise r c t
 returns r c =
-    let o : Outcome = outcomeOf r c in (
-      record {
-        answer = o .called .answer;
-        taken = o .called .taken;
-        toServer = o .called .written .server;
-        toClient = o .called .written .client;
-        session = o .called .session;
-        serverBuffer = o .toServer ++ drop (o .called .written .server) (lentServer c);
-        clientBuffer = o .toClient ++ drop (o .called .written .client) (lentClient c);
-      },
-      record { answer = refl; taken = refl; toServer = refl; toClient = refl; session = refl; serverBuffer = refl; clientBuffer = refl },
+    let o : Outcome = outcomeOf r c in
+    let t : Called = o .called in (
+      returned r c t (o .toServer ++ drop (t .written .server) (lentServer c)) (o .toClient ++ drop (t .written .client) (lentClient c)),
+      record { answer = refl; taken = refl; toServer = refl; toClient = refl; session = refl; serverBuffer = refl; clientBuffer = refl; pieces = refl },
     )
 
 pub fresh-is : (su : Setup) (r : Session) → Fresh su r → r ≡ freshSession su
@@ -98,19 +92,14 @@ unfolding prepared setupAnswer choose
 fresh-is su r h = h .session ∙ rw (good-flags (badFlags (su .flags)) (h .answer))
 
 pub fresh-stays : (su : Setup)
-    → Stays (agrees su) (freshSession su) (freshClient (setupSwitches (su .flags))) freshServer
+    → Stays (agrees su) (freshSession su) (freshMoment (setupSwitches (su .flags)))
 unfolding freshSession agrees judged
 fresh-stays su =
     record {
       live = refl;
       fixed = refl;
       alike = record {
-        tied = refl;
-        client = begins _;
-        server = begins _;
-        command = length-replicate {A = ℕ} mostHeld 0;
-        reply = length-replicate {A = ℕ} mostHeld 0;
-        queue = queue-fresh;
-        opening = refl;
+        client = record { tied = refl; place = begins _; full = length-replicate {A = ℕ} mostHeld 0; layer = refl };
+        server = record { place = begins _; full = length-replicate {A = ℕ} mostHeld 0; queue = queue-fresh; opening = refl; layer = refl };
       };
     }

@@ -1,5 +1,4 @@
--- Demand 3, from the readings' side (ByOctets, Items), the record's side (Queue, Places, Settle, Steps, Calls, Counts) and both (Fresh, Demand3).
-pub mod ByOctets
+-- Demand 3, from the readings' side (Items), the record's side (Queue, Places, Settle, Steps, Calls, Counts) and both (Fresh, Demand3).
 pub mod Queue
 pub mod Places
 pub mod Settle

@@ -10,7 +10,8 @@ use lib.ListN.{length, take, drop, set, length-set}
 use lib.Seq.{take-suc-set, length-take-le, take-append-le, take-take}
 use borrow.Author.Tests.{eqb-true, ltb-true, ltb-false, eq-eqb, ne-eqb}
 use Rattle.rules.specs.Octets.{lf, choose}
-use Rattle.rules.specs.Lines.{judged, startsAuth, unchanged, content}
+use Rattle.rules.specs.Lines.{judged, startsAuth, passed, unchanged, content}
+use Rattle.rules.specs.Telnet.{unfinishedIn}
 use Rattle.rules.specs.Commands.{command, commandOwes, commandSwitches}
 use Rattle.rules.specs.Replies.{isAuth, isOpen, replyLine, passiveReply}
 use Rattle.rules.specs.Edition.{ClientLine, LineRules}
@@ -35,7 +36,10 @@ use Rattle.rules.specs.ToClient.{
   held,
   flowsOrEnded as readFlowsOrEnded,
   passesFromNow as readPassesFromNow,
+  isInLine,
+  letGo,
 }
+use Rattle.rules.specs.declared.Telnet.{Telnet}
 use Rattle.rules.specs.declared.Switches.{Switches}
 use Rattle.rules.specs.declared.Kind.{Kind}
 use Rattle.rules.specs.declared.Command.{Command}
@@ -48,13 +52,14 @@ use Rattle.queue.specs.declared.Owes.{Owes}
 use Rattle.upstream.specs.declared.ClientEffect.{ClientEffect}
 use Rattle.downstream.specs.declared.ServerEffect.{ServerEffect}
 use Rattle.gives.specs.Text.{givesText}
-use Rattle.places.specs.Places.{at, isFlowingOrEnded, directionFromNow}
+use Rattle.places.specs.Places.{at, isInLines, isFlowingOrEnded, directionFromNow}
 use Rattle.upstream.specs.Upstream.{commandEffect, judgedEffect, joinEffect, placeEffect, clientEffectOf}
 use Rattle.downstream.specs.Downstream.{passiveEffect, kindEffect, headEffect, lineGives, wholeLine, flowingLine, replyOctet, replyEffect}
 use Rattle.rules.specs.declared.Fixed.{Fixed}
 use Rattle.steps.specs.Steps.{stored}
-use Rattle.history.specs.ByOctets.{lineEndGives, clientGives}
-use Rattle.history.proofs.ByOctets.{
+use Rattle.rules.specs.Items.{lineEndGives, clientGives}
+use Rattle.octets.proofs.Passed.{passed-append}
+use Rattle.readings.proofs.ByOctets.{
   six,
   whole,
   long,
@@ -114,6 +119,17 @@ module _ {Kept : List ℕ → List ℕ → Type 0} where
   flows-or-ended passing f = refl
   flows-or-ended ended f = refl
 
+  pub in-lines : {p : Place} {n : ℕ} {line : List ℕ} {q : Reading} → Stands Kept p n line q → isInLines p ≡ isInLine q
+  in-lines (holding h) = refl
+  in-lines (flowing k g) = refl
+  in-lines passing = refl
+  in-lines ended = refl
+
+  -- what an end or the AUTH step lets go
+  pub let-go : {p : Place} {n : ℕ} {line : List ℕ} {q : Reading} → Stands Kept p n line q → Full line → (t : Telnet)
+      → passed (take n line) ++ unfinishedIn (isInLines p) t ≡ letGo q t
+  let-go stands full t = rw (held-octets stands full, in-lines stands)
+
   -- all octets pass from now on
   pub passes-on : {p : Place} {n : ℕ} {line : List ℕ} {q : Reading} → Stands Kept p n line q
       → Stands Kept (directionFromNow (at p n) p .place) (directionFromNow (at p n) p .held) line (readPassesFromNow q)
@@ -128,6 +144,10 @@ joined line n x = take n line ++ (x ∷ [])
 
 length-joined : (line : List ℕ) (n x : ℕ) → Full line → n < judged → length (joined line n x) ≡ n + 1
 length-joined line n x f h = length-snoc (take n line) x ∙ rw (length-take-le n line (omega arith)) (omega arith)
+
+-- what it lets go
+passed-joined : (line : List ℕ) (n x : ℕ) → passed (take n line) ++ passed (x ∷ []) ≡ passed (joined line n x)
+passed-joined line n x = sym (passed-append (take n line) (x ∷ []))
 
 -- ---- line rules that the session's own page follows
 
@@ -223,11 +243,11 @@ module _ (f : Fixed) (rules : LineRules) (agree : Agrees f rules) where
     unfolding lineOctetGives joins choose givesText stored
     go-fits line n x full size true e =
         rw (long (joined line n x) (omega arith), eq-eqb (length (joined line n x)) judged size, e)
-        (record { gives = refl; tied = tied; owes = refl; full = full; place = passing })
+        (record { gives = passed-joined line n x; tied = tied; owes = refl; full = full; place = passing })
     go-fits line n x full size false e =
         let flows : judged ≤ length (joined line n x) = omega arith in
         rw (long (joined line n x) flows, eq-eqb (length (joined line n x)) judged size, e)
-        (record { gives = refl; tied = tied; owes = refl; full = full; place = flowing flows e })
+        (record { gives = passed-joined line n x; tied = tied; owes = refl; full = full; place = flowing flows e })
 
     join-fits : (line : List ℕ) (n x : ℕ) → Full line → n < judged → (b : Bool) → ltb (n + 1) judged ≡ b
         → ClientFits agree line n x (joinEffect sw n (take n line)) (lineOctetGives (joined line n x) x) (joins st (joined line n x))
@@ -250,7 +270,7 @@ module _ (f : Fixed) (rules : LineRules) (agree : Agrees f rules) where
         → ClientFits agree line 0 x (placeEffect f sw Place.Flowing 0 [] b)
         (choose b (lineEndGives rules st l) (lineOctetGives (l ++ (x ∷ [])) x))
         (choose b (finishes (finishedLine rules st l)) (joins st (l ++ (x ∷ []))))
-    unfolding placeEffect choose lineEndGives finishes longOwes lineOctetGives joins givesText stored
+    unfolding placeEffect choose lineEndGives finishes longOwes lineOctetGives joins givesText stored passed
     flowing-fits line l x full k a true p =
         rw (finished-long rules st l k, long l k, a, eqb-true x lf p)
         (record { gives = refl; tied = tied; owes = refl; full = full; place = begins line })
@@ -294,13 +314,13 @@ module _ (f : Fixed) (rules : LineRules) (agree : Agrees f rules) where
   -- what the only line of a final reply gives, or its last one
   final-gives : (h : List ℕ) (b : Bool) (k : Kind)
       → givesText f h lf (choose b Gives.HeldAndOctet (kindEffect f k (content h))) ≡ choose b (unchanged h) (rules .finalLine k h)
-  unfolding givesText choose
+  unfolding givesText choose passed
   final-gives h true k = refl
   final-gives h false k = agree .final k h
 
   -- what a line judged whole gives
   line-gives : (h : List ℕ) (r : ReplyLine) (u : ℕ) (ks : List Kind) → givesText f h lf (lineGives f r u (firstOf ks) (content h)) ≡ wholeLineGives rules ks u h r
-  unfolding lineGives headEffect wholeLineGives finalLineGives givesText choose
+  unfolding lineGives headEffect wholeLineGives finalLineGives givesText choose passed
   line-gives h (ReplyLine.Opens code) u ks = refl
   line-gives h ReplyLine.Belongs u ks = refl
   line-gives h ReplyLine.StandsAlone u ks = refl
@@ -344,7 +364,7 @@ module _ (f : Fixed) (rules : LineRules) (agree : Agrees f rules) where
       take-append-le 4 (take n line) (x ∷ []) (omega (arith, six, length-take-le n line (omega arith)))
       ∙ take-take 4 n line (omega (arith, six)) in
       rw (p, long (joined line n x) more, eq-eqb (length (joined line n x)) judged (omega arith))
-      (record { gives = refl; owed = refl; opening = refl; full = full; place = flowing more (sym four) })
+      (record { gives = passed-joined line n x; owed = refl; opening = refl; full = full; place = flowing more (sym four) })
 
   held-reply-fits : (line : List ℕ) (n x : ℕ) (u : ℕ) (ks : List Kind) → Full line → n < judged → (b : Bool) → eqb x lf ≡ b
       → ServerFits f line n x ks (replyEffect f u (firstOf ks) Place.Holding n line b) (choose b (serverLine rules ks u (take n line)) (lineOctet ks u (joined line n x) x))
@@ -354,7 +374,7 @@ module _ (f : Fixed) (rules : LineRules) (agree : Agrees f rules) where
 
   flowing-reply-fits : (line l : List ℕ) (x : ℕ) (u : ℕ) (ks : List Kind) → Full line → judged ≤ length l → FirstFour line l → (b : Bool) → eqb x lf ≡ b
       → ServerFits f line 0 x ks (replyEffect f u (firstOf ks) Place.Flowing 0 line b) (choose b (serverLine rules ks u l) (lineOctet ks u (l ++ (x ∷ [])) x))
-  unfolding replyEffect flowingLine serverLine classedBy lineOctet lineOctetGives choose givesText stored
+  unfolding replyEffect flowingLine serverLine classedBy lineOctet lineOctetGives choose givesText stored passed
   flowing-reply-fits line l x u ks full k e true p =
       rw (e, long l k, eqb-true x lf p)
       (record {

@@ -10,7 +10,8 @@ use Rattle.rules.specs.Answers.{answerNumber}
 use Rattle.rules.specs.Octets.{every}
 use Rattle.rules.specs.Setup.{setupSize, setupIn, setupAnswer}
 use Rattle.rules.specs.declared.Setup.{Setup}
-use Rattle.rules.specs.Demand3.{Call, arrival, ending, Return, Made, Calls, noCalls, next, lentServer, lentClient, itemsOf, historyOf, goneToServer, goneToClient, Demand3}
+use Rattle.rules.specs.Demand3.{Call, arrival, ending, Return, Made, Calls, noCalls, next, lentServer, lentClient, itemsOf, historyOf, goneToServer, goneToClient, piecesOf, Demand3}
+use Rattle.rules.specs.Items.{allToServer, allToClient}
 use Rattle.rules.specs.declared.Answer.{Answer}
 use Rattle.records.specs.Layout.{imageSize}
 use Rattle.records.specs.declared.Session.{Session}
@@ -19,7 +20,7 @@ use Rattle.session.specs.Calls.{Outcome, prepared, preparedFrom, freshSession}
 use Rattle.answers.specs.Table.{Situation as TableCall, Result, ofArrival as arrivalResult, ofEnd as endingResult}
 use Rattle.answers.proofs.Rows.{same-number}
 use Rattle.answers.proofs.Table.{setup-zero}
-use Rattle.history.specs.Gateway.{Fresh as SessionFresh, Promise as SessionPromise, outcomeOf, gateway}
+use Rattle.history.specs.Gateway.{Fresh as SessionFresh, Promise as SessionPromise, outcomeOf, callPieces, gateway}
 use Rattle.history.proofs.Demand3.{demand3}
 use Rattle.output.specs.Buffer.{putAt}
 use Rattle.image.specs.Image.{imageOf, sessionOf}
@@ -63,6 +64,7 @@ told t s =
       session = s;
       serverBuffer = t .serverBuffer;
       clientBuffer = t .clientBuffer;
+      pieces = t .pieces;
     }
 
 module _ (image : List ℕ) (s : Session) (h : Holds image s) (c : Call) (t : Return (List ℕ)) (p : HostPromise image c t) where
@@ -80,6 +82,7 @@ module _ (image : List ℕ) (s : Session) (h : Holds image s) (c : Call) (t : Re
         session = refl;
         serverBuffer = p .serverBuffer ∙ rw (p .toServer, here);
         clientBuffer = p .clientBuffer ∙ rw (p .toClient, here);
+        pieces = p .pieces ∙ ap (λ (r : Session). callPieces r c (t .answer) (t .taken)) (h .read);
       }
 
   holds-then : Holds (t .session) (outcomeOf s c .called .session)
@@ -102,9 +105,10 @@ record Run (s : Session) (l : List (Made host)) (z : List ℕ) : Type 0 where
   history : historyOf gateway made ≡ historyOf host l
   toServer : goneToServer gateway made ≡ goneToServer host l
   toClient : goneToClient gateway made ≡ goneToClient host l
+  pieces : piecesOf gateway made ≡ piecesOf host l
 
 run : {image z : List ℕ} {l : List (Made host)} (s : Session) → Holds image s → Calls host image l z → Run s l z
-run s h noCalls = record { made = []; last = s; calls = noCalls; holds = h; history = refl; toServer = refl; toClient = refl }
+run s h noCalls = record { made = []; last = s; calls = noCalls; holds = h; history = refl; toServer = refl; toClient = refl; pieces = refl }
 run {image} {z} s h (next {c = c} {t = t} {l = l} p rest) =
     let then = outcomeOf s c .called .session in
     let r = run then (holds-then image s h c t p) rest in
@@ -116,6 +120,7 @@ run {image} {z} s h (next {c = c} {t = t} {l = l} p rest) =
       history = rw (items c t then, r .history);
       toServer = rw (r .toServer);
       toClient = rw (r .toClient);
+      pieces = rw (r .pieces);
     }
 
 -- ---- demand 3
@@ -146,10 +151,15 @@ host-demand3 su image z l fresh calls =
     let r = run (freshSession su) (first-held su image fresh) calls in
     let k = demand3 su _ (r .last) (r .made) (session-fresh su image fresh) (r .calls) in
     record {
-      toServer = sym (r .toServer) ∙ (k .toServer ∙ rw (r .history));
+      joinedToServer = ap allToServer (sym (r .pieces)) ∙ (k .joinedToServer ∙ r .toServer);
+      joinedToClient = ap allToClient (sym (r .pieces)) ∙ (k .joinedToClient ∙ r .toClient);
+      pieces = sym (r .pieces) ∙ (k .pieces ∙ rw (r .history));
+      toServer = rw (r .history, r .pieces) at (k .toServer);
       toClient = sym (r .toClient) ∙ (k .toClient ∙ rw (r .history));
       clientOffset = rw (r .holds .read) (k .clientOffset ∙ rw (r .toServer, r .history));
       serverOffset = rw (r .holds .read) (k .serverOffset ∙ rw (r .toClient, r .history));
+      clientRemoved = rw (r .holds .read) (k .clientRemoved ∙ rw (r .history));
+      serverRemoved = rw (r .holds .read) (k .serverRemoved ∙ rw (r .history));
     }
 
 -- ---- the claim is not empty
@@ -192,8 +202,18 @@ call-returns image c =
         session = imageAfter image (o .called);
         serverBuffer = serverAfter o (lentServer c);
         clientBuffer = clientAfter o (lentClient c);
+        pieces = callPieces (sessionOf image) c (o .called .answer) (o .called .taken);
       },
-      record { number = refl; taken = refl; toServer = refl; toClient = refl; memory = refl; serverBuffer = refl; clientBuffer = refl },
+      record {
+        number = refl;
+        taken = refl;
+        toServer = refl;
+        toClient = refl;
+        memory = refl;
+        serverBuffer = refl;
+        clientBuffer = refl;
+        pieces = refl;
+      },
     )
 
 pub host-answering : HostAnswering

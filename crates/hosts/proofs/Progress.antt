@@ -12,7 +12,7 @@ use Rattle.rules.specs.Lines.{judged, mostHeld}
 use Rattle.rules.specs.Answers.{mostOwed}
 use Rattle.rules.specs.Demand3.{arrival, Return}
 use Rattle.rules.specs.Setup.{ipv4Width}
-use Rattle.records.specs.Layout.{imageSize, openingAt, mappedAt, commandAt, replyAt, kindsAt}
+use Rattle.records.specs.Layout.{imageSize, openingAt, upRemovedAt, downRemovedAt, mappedAt, commandAt, replyAt, kindsAt}
 use Rattle.octets.proofs.Ranges.{and-both}
 use Rattle.session.specs.Bounds.{Shaped, Progress}
 use Rattle.session.specs.Calls.{deadSession}
@@ -42,7 +42,7 @@ module _ (image : List ℕ) (octets : (i : ℕ) → getD image i 0 < 256) where
   by-image : (b : Bool) → isImage image ≡ b → Shaped (choose b (fieldsIn image) deadSession)
   unfolding isImage choose fieldsIn controlIn deadSession judged
   by-image true e =
-      let room = leb-true imageSize (length image) (and-both _ _ (and-both _ _ e .0) .0) in
+      let room = leb-true imageSize (length image) (and-both _ _ (and-both _ _ (and-both _ _ e .0) .0) .0) in
       record {
         mapped = part-length mappedAt ipv4Width (omega arith);
         octets = part-octets mappedAt ipv4Width (omega arith);
@@ -50,6 +50,8 @@ module _ (image : List ℕ) (octets : (i : ℕ) → getD image i 0 < 256) where
         reply = part-length replyAt mostHeld (omega arith);
         kinds = part-length kindsAt mostOwed (omega arith);
         opening = number-low image room octets openingAt;
+        removedUp = number-low image room octets upRemovedAt;
+        removedDown = number-low image room octets downRemovedAt;
       }
   by-image false e =
       record {
@@ -59,6 +61,8 @@ module _ (image : List ℕ) (octets : (i : ℕ) → getD image i 0 < 256) where
         reply = dead-sized .reply;
         kinds = dead-sized .kinds;
         opening = omega arith;
+        removedUp = omega arith;
+        removedDown = omega arith;
       }
 
   image-shaped : Shaped (sessionOf image)

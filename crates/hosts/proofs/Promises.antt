@@ -50,7 +50,7 @@ pub call-promised : (image : List ℕ) (c : Call) {n : ℕ} {counts image′ ser
     × ((image′ ≡ imageAfter image (outcomeAt image c .called))
     × ((server ≡ serverAfter (outcomeAt image c) (lentServer c)) × (client ≡ clientAfter (outcomeAt image c) (lentClient c))))
     → Does image c n image′ server client counts
-    × ((a : Answer) → answerNumber a ≡ n → HostPromise image c (toldBy a counts image′ server client))
+    × ((a : Answer) → answerNumber a ≡ n → HostPromise image c (toldBy image c a counts image′ server client))
 unfolding countsOf
 call-promised image c ((number, told), (memory, (server, client))) = (
   record { number = number; memory = memory; serverBuffer = server; clientBuffer = client; told = told },
@@ -62,6 +62,7 @@ call-promised image c ((number, told), (memory, (server, client))) = (
     memory = memory;
     serverBuffer = server;
     clientBuffer = client;
+    pieces = refl;
   },
 )
 

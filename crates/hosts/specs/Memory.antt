@@ -14,7 +14,8 @@ use Rattle.rules.specs.declared.Answer.{Answer}
 use Rattle.records.specs.Layout.{imageSize}
 use Rattle.output.specs.Buffer.{putAt}
 use Rattle.session.specs.Calls.{Outcome, preparedFrom, offset as sessionOffset}
-use Rattle.history.specs.Gateway.{directionNumber, returnedOffset}
+use Rattle.records.specs.Controls.{layerIn}
+use Rattle.history.specs.Gateway.{directionNumber, callPieces, returnedOffset}
 use Rattle.image.specs.Image.{imageOf, sessionOf}
 use Rattle.image.specs.Lent.{arrivedOn, endedOn, imageAfter, serverAfter, clientAfter}
 use Rattle.fashlemor.specs.Host.{setupNumber, countsOf}
@@ -42,7 +43,7 @@ pub record Does (image : List ℕ) (c : Call) (n : ℕ) (image′ server client 
   pub clientBuffer : client ≡ clientAfter (outcomeAt image c) (lentClient c)
   pub told : counts′ ≡ countsOf (outcomeAt image c .called)
 
--- what they promise: the number, the three counts, the memory, and the two buffers
+-- what they promise: the number, the three counts, the memory, the two buffers, and the pieces of what was taken
 pub record HostPromise (image : List ℕ) (c : Call) (t : Return (List ℕ)) : Type 0 where
   pub number : answerNumber (t .answer) ≡ answerNumber (outcomeAt image c .called .answer)
   pub taken : t .taken ≡ outcomeAt image c .called .taken
@@ -51,10 +52,11 @@ pub record HostPromise (image : List ℕ) (c : Call) (t : Return (List ℕ)) : T
   pub memory : t .session ≡ imageAfter image (outcomeAt image c .called)
   pub serverBuffer : t .serverBuffer ≡ serverAfter (outcomeAt image c) (lentServer c)
   pub clientBuffer : t .clientBuffer ≡ clientAfter (outcomeAt image c) (lentClient c)
+  pub pieces : t .pieces ≡ callPieces (sessionOf image) c (t .answer) (t .taken)
 
--- what a call told a host: the answer whose number it returned, the three counts, the memory and the two buffers
-abbrev pub toldBy : Answer → List ℕ → List ℕ → List ℕ → List ℕ → Return (List ℕ)
-toldBy a counts image serverBuffer clientBuffer =
+-- what a call on a memory told a host: the answer whose number it returned, the three counts, the memory then and the two buffers
+abbrev pub toldBy : List ℕ → Call → Answer → List ℕ → List ℕ → List ℕ → List ℕ → Return (List ℕ)
+toldBy before c a counts image serverBuffer clientBuffer =
     record {
       answer = a;
       taken = getD counts 0 0;
@@ -63,9 +65,10 @@ toldBy a counts image serverBuffer clientBuffer =
       session = image;
       serverBuffer = serverBuffer;
       clientBuffer = clientBuffer;
+      pieces = callPieces (sessionOf before) c a (getD counts 0 0);
     }
 
--- and the offset that `fashlemor_offset` sets
+-- with the offset that `fashlemor_offset` sets, and the counts of octets removed that the memory has
 abbrev pub host : Gateway
 host =
     record {
@@ -73,6 +76,7 @@ host =
       Fresh = HostFresh;
       Promise = HostPromise;
       offset = λ image side. returnedOffset (sessionOffset (sessionOf image) (directionNumber side));
+      removed = λ image side. layerIn side (sessionOf image .control) .removed;
     }
 
 -- what keeps demand 3 of a host from being empty: octets of a setup that answers 0 have a memory, only such a setup's is fresh, and

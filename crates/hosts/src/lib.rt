@@ -49,7 +49,8 @@ pub fn promised_arrival(
         let out = now («to_server» .exit) in
         let back = now («to_client» .exit) in
         ⌜ ((a : Answer) → answerNumber a ≡ r
-        → host .Promise (now (image .entry)) c (toldBy a (now (counts .exit)) (now (image .exit)) out back)) ⌝ }
+        → host .Promise (now (image .entry)) c (toldBy (now (image .entry)) c a (now (counts .exit))
+        (now (image .exit)) out back)) ⌝ }
     ensures progress { λ r.
         let serverRoom = length (now («to_server» .entry)) in
         let clientRoom = length (now («to_client» .entry)) in
@@ -77,7 +78,8 @@ pub fn promised_end(
         let out = now («to_server» .exit) in
         let back = now («to_client» .exit) in
         ⌜ ((a : Answer) → answerNumber a ≡ r
-        → host .Promise (now (image .entry)) c (toldBy a (now (counts .exit)) (now (image .exit)) out back)) ⌝ }
+        → host .Promise (now (image .entry)) c (toldBy (now (image .entry)) c a (now (counts .exit))
+        (now (image .exit)) out back)) ⌝ }
 {
     fashlemor_end(image, direction, to_server, to_client, counts)
 }

@@ -12,12 +12,13 @@ use Rattle.rules.specs.Octets.{choose, every}
 use Rattle.rules.specs.Answers.{wrapped, mostOwed}
 use Rattle.rules.specs.Lines.{mostHeld}
 use Rattle.rules.specs.Setup.{ipv6Width, ipv4Width}
-use Rattle.records.specs.Layout.{numberWidth, liveAt, supportedAt, epsvAt, clientPlaceAt, openingAt, owedAt, clientHeldAt, serverHeldAt, upTakenAt, upWrittenAt, downTakenAt, downWrittenAt, clientAt, mappedAt, kindsAt, commandAt, imageSize, lentSize, linesSize, bitsSize, placesSize, marksSize, numbersSize}
+use Rattle.records.specs.Layout.{numberWidth, liveAt, supportedAt, epsvAt, clientPlaceAt, clientTelnetAt, openingAt, owedAt, clientHeldAt, serverHeldAt, upTakenAt, upWrittenAt, downTakenAt, downWrittenAt, upRemovedAt, downRemovedAt, clientAt, mappedAt, kindsAt, commandAt, imageSize, lentSize, linesSize, bitsSize, placesSize, telnetsSize, marksSize, numbersSize}
 use Rattle.octets.proofs.Ranges.{and-both}
 use Rattle.output.specs.Buffer.{putAt}
 use Rattle.image.specs.Image.{
   markOf,
   placeNumber,
+  telnetNumber,
   fourOctets,
   capped,
   marksOf,
@@ -25,6 +26,7 @@ use Rattle.image.specs.Image.{
   arraysOf,
   imageOf,
   placeOf,
+  telnetOf,
   countAt,
   isSet,
   part,
@@ -55,6 +57,18 @@ octet-place (suc (suc zero)) e = refl
 octet-place (suc (suc (suc zero))) e = refl
 octet-place (suc (suc (suc (suc n)))) e = absurd (omega (arith, leb-true (suc (suc (suc (suc n)))) 3 e))
 
+octet-telnet : (n : ℕ) → leb n 7 ≡ true → telnetNumber (telnetOf n) ≡ n
+unfolding telnetOf
+octet-telnet zero e = refl
+octet-telnet (suc zero) e = refl
+octet-telnet (suc (suc zero)) e = refl
+octet-telnet (suc (suc (suc zero))) e = refl
+octet-telnet (suc (suc (suc (suc zero)))) e = refl
+octet-telnet (suc (suc (suc (suc (suc zero))))) e = refl
+octet-telnet (suc (suc (suc (suc (suc (suc zero)))))) e = refl
+octet-telnet (suc (suc (suc (suc (suc (suc (suc zero))))))) e = refl
+octet-telnet (suc (suc (suc (suc (suc (suc (suc (suc n)))))))) e = absurd (omega (arith, leb-true (suc (suc (suc (suc (suc (suc (suc (suc n)))))))) 7 e))
+
 four-list : (n : ℕ) {a b c d : ℕ} → n % 256 ≡ a → n / 256 % 256 ≡ b → n / 65536 % 256 ≡ c → n / 16777216 % 256 ≡ d
     → fourOctets n ≡ a ∷ b ∷ c ∷ d ∷ []
 unfolding fourOctets
@@ -66,23 +80,32 @@ four-same a b c d n ha hb hc hd e = four-list n (omega arith) (omega arith) (ome
 
 -- ---- the marks
 
-marks-same : (image : List ℕ) → marksSize ≤ length image → atMost 1 (part image liveAt bitsSize) ≡ true → atMost 3 (part image clientPlaceAt placesSize) ≡ true
-    → marksOf (fieldsIn image) ≡ part image liveAt marksSize
+-- the tests of the marks
+record Marked (image : List ℕ) : Type 0 where
+  bits : atMost 1 (part image liveAt bitsSize) ≡ true
+  places : atMost 3 (part image clientPlaceAt placesSize) ≡ true
+  telnets : atMost 7 (part image clientTelnetAt telnetsSize) ≡ true
+
+marks-same : (image : List ℕ) → marksSize ≤ length image → Marked image → marksOf (fieldsIn image) ≡ part image liveAt marksSize
 unfolding atMost every marksOf fieldsIn controlIn
-marks-same (a ∷ b ∷ c ∷ d ∷ f ∷ g ∷ rest) h m p =
-    let m1 = and-both (leb a 1) (leb b 1 && (leb c 1 && (leb d 1 && true))) m in
+marks-same (a ∷ b ∷ c ∷ d ∷ f ∷ g ∷ j ∷ k ∷ rest) h m =
+    let m1 = and-both (leb a 1) (leb b 1 && (leb c 1 && (leb d 1 && true))) (m .bits) in
     let m2 = and-both (leb b 1) (leb c 1 && (leb d 1 && true)) (m1 .1) in
     let m3 = and-both (leb c 1) (leb d 1 && true) (m2 .1) in
     let m4 = and-both (leb d 1) true (m3 .1) in
-    let p1 = and-both (leb f 3) (leb g 3 && true) p in
+    let p1 = and-both (leb f 3) (leb g 3 && true) (m .places) in
     let p2 = and-both (leb g 3) true (p1 .1) in
-    rw (octet-bit a (m1 .0), octet-bit b (m2 .0), octet-bit c (m3 .0), octet-bit d (m4 .0), octet-place f (p1 .0), octet-place g (p2 .0))
-marks-same [] h m p = absurd (omega arith)
-marks-same (_ ∷ []) h m p = absurd (omega arith)
-marks-same (_ ∷ _ ∷ []) h m p = absurd (omega arith)
-marks-same (_ ∷ _ ∷ _ ∷ []) h m p = absurd (omega arith)
-marks-same (_ ∷ _ ∷ _ ∷ _ ∷ []) h m p = absurd (omega arith)
-marks-same (_ ∷ _ ∷ _ ∷ _ ∷ _ ∷ []) h m p = absurd (omega arith)
+    let t1 = and-both (leb j 7) (leb k 7 && true) (m .telnets) in
+    let t2 = and-both (leb k 7) true (t1 .1) in
+    rw (octet-bit a (m1 .0), octet-bit b (m2 .0), octet-bit c (m3 .0), octet-bit d (m4 .0), octet-place f (p1 .0), octet-place g (p2 .0), octet-telnet j (t1 .0), octet-telnet k (t2 .0))
+marks-same [] h m = absurd (omega arith)
+marks-same (_ ∷ []) h m = absurd (omega arith)
+marks-same (_ ∷ _ ∷ []) h m = absurd (omega arith)
+marks-same (_ ∷ _ ∷ _ ∷ []) h m = absurd (omega arith)
+marks-same (_ ∷ _ ∷ _ ∷ _ ∷ []) h m = absurd (omega arith)
+marks-same (_ ∷ _ ∷ _ ∷ _ ∷ _ ∷ []) h m = absurd (omega arith)
+marks-same (_ ∷ _ ∷ _ ∷ _ ∷ _ ∷ _ ∷ []) h m = absurd (omega arith)
+marks-same (_ ∷ _ ∷ _ ∷ _ ∷ _ ∷ _ ∷ _ ∷ []) h m = absurd (omega arith)
 
 -- ---- the numbers and the arrays
 
@@ -119,25 +142,28 @@ module _ (image : List ℕ) (long : imageSize ≤ length image) (octets : (i : �
   numbers-same : numbersOf (fieldsIn image) ≡ part image openingAt numbersSize
   unfolding numbersOf fieldsIn controlIn countsAt
   numbers-same =
-      rw (number-same openingAt (omega arith), count-same owedAt (omega arith), count-same clientHeldAt (omega arith), count-same serverHeldAt (omega arith), number-same upTakenAt (omega arith), number-same upWrittenAt (omega arith), number-same downTakenAt (omega arith), number-same downWrittenAt (omega arith))
-      (rw (adjoined image downTakenAt numberWidth numberWidth, adjoined image upWrittenAt numberWidth (clientAt - downTakenAt), adjoined image upTakenAt numberWidth (clientAt - upWrittenAt), adjoined image serverHeldAt numberWidth (clientAt - upTakenAt), adjoined image clientHeldAt numberWidth (clientAt - serverHeldAt), adjoined image owedAt numberWidth (clientAt - clientHeldAt), adjoined image openingAt numberWidth (clientAt - owedAt)))
+      rw (number-same openingAt (omega arith), count-same owedAt (omega arith), count-same clientHeldAt (omega arith), count-same serverHeldAt (omega arith), number-same upTakenAt (omega arith), number-same upWrittenAt (omega arith), number-same downTakenAt (omega arith), number-same downWrittenAt (omega arith), number-same upRemovedAt (omega arith), number-same downRemovedAt (omega arith))
+      (rw (adjoined image upRemovedAt numberWidth numberWidth, adjoined image downWrittenAt numberWidth (clientAt - upRemovedAt), adjoined image downTakenAt numberWidth (clientAt - downWrittenAt), adjoined image upWrittenAt numberWidth (clientAt - downTakenAt), adjoined image upTakenAt numberWidth (clientAt - upWrittenAt), adjoined image serverHeldAt numberWidth (clientAt - upTakenAt), adjoined image clientHeldAt numberWidth (clientAt - serverHeldAt), adjoined image owedAt numberWidth (clientAt - clientHeldAt), adjoined image openingAt numberWidth (clientAt - owedAt)))
 
   arrays-same : arraysOf (fieldsIn image) ≡ part image clientAt lentSize
   unfolding arraysOf fieldsIn
   arrays-same = rw (adjoined image commandAt mostHeld mostHeld, adjoined image kindsAt mostOwed linesSize, adjoined image mappedAt ipv4Width (imageSize - kindsAt), adjoined image clientAt ipv6Width (imageSize - mappedAt))
 
-  image-same : atMost 1 (part image liveAt bitsSize) ≡ true → atMost 3 (part image clientPlaceAt placesSize) ≡ true → imageOf (fieldsIn image) ≡ take imageSize image
+  image-same : Marked image → imageOf (fieldsIn image) ≡ take imageSize image
   unfolding imageOf
-  image-same m p = rw (marks-same image (omega arith) m p, numbers-same, arrays-same, adjoined image openingAt numbersSize lentSize) (adjoined image liveAt marksSize (imageSize - openingAt))
+  image-same m = rw (marks-same image (omega arith) m, numbers-same, arrays-same, adjoined image openingAt numbersSize lentSize) (adjoined image liveAt marksSize (imageSize - openingAt))
 
--- the three tests of an image
-tests : (image : List ℕ) → isImage image ≡ true
-    → (imageSize ≤ length image) × (atMost 1 (part image liveAt bitsSize) ≡ true) × (atMost 3 (part image clientPlaceAt placesSize) ≡ true)
+-- the tests of an image
+tests : (image : List ℕ) → isImage image ≡ true → (imageSize ≤ length image) × Marked image
 unfolding isImage
 tests image ok =
-    let marked = and-both (leb imageSize (length image) && atMost 1 (part image liveAt bitsSize)) (atMost 3 (part image clientPlaceAt placesSize)) ok in
-    let long = and-both (leb imageSize (length image)) (atMost 1 (part image liveAt bitsSize)) (marked .0) in
-    (leb-true imageSize (length image) (long .0), long .1, marked .1)
+    let long = leb imageSize (length image) in
+    let bits = atMost 1 (part image liveAt bitsSize) in
+    let places = atMost 3 (part image clientPlaceAt placesSize) in
+    let t = and-both (long && bits && places) (atMost 7 (part image clientTelnetAt telnetsSize)) ok in
+    let p = and-both (long && bits) places (t .0) in
+    let b = and-both long bits (p .0) in
+    (leb-true imageSize (length image) (b .0), record { bits = b .1; places = p .1; telnets = t .1 })
 
 pub image-long : (image : List ℕ) → isImage image ≡ true → imageSize ≤ length image
 image-long image ok = tests image ok .0
@@ -147,11 +173,11 @@ pub fixed-marks : (image : List ℕ) → isImage image ≡ true → markOf (isSe
 unfolding marksOf fieldsIn
 fixed-marks image ok =
     let t = tests image ok in
-    ap (take epsvAt) (marks-same image (omega arith) (t .1) (t .2)) ∙ take-take epsvAt marksSize image (omega arith)
+    ap (take epsvAt) (marks-same image (omega arith) (t .1)) ∙ take-take epsvAt marksSize image (omega arith)
 
 module _ (image : List ℕ) (ok : isImage image ≡ true) (octets : (i : ℕ) → getD image i 0 < 256) where
   fields-same : imageOf (fieldsIn image) ≡ take imageSize image
-  fields-same = let t = tests image ok in image-same image (t .0) octets (t .1) (t .2)
+  fields-same = let t = tests image ok in image-same image (t .0) octets (t .1)
 
   pub fields-size : length (imageOf (fieldsIn image)) ≡ imageSize
   fields-size = ap length fields-same ∙ length-take-le imageSize image (image-long image ok)

@@ -12,7 +12,8 @@ use Rattle.rules.specs.Octets.{choose, every}
 use Rattle.rules.specs.Lines.{judged, mostHeld}
 use Rattle.rules.specs.Answers.{mostOwed}
 use Rattle.rules.specs.Setup.{ipv6Width, ipv4Width}
-use Rattle.records.specs.Layout.{liveAt, supportedAt, clientPlaceAt, upTakenAt, downTakenAt, clientAt, mappedAt, kindsAt, commandAt, replyAt, imageSize, lentMapped, lentKinds, lentCommand, lentReply, bitsSize, placesSize}
+use Rattle.rules.specs.declared.Telnet.{Telnet}
+use Rattle.records.specs.Layout.{liveAt, supportedAt, clientPlaceAt, clientTelnetAt, upTakenAt, downTakenAt, clientAt, mappedAt, kindsAt, commandAt, replyAt, imageSize, lentMapped, lentKinds, lentCommand, lentReply, bitsSize, placesSize, telnetsSize}
 use Rattle.places.specs.declared.Place.{Place}
 use Rattle.records.specs.declared.Session.{Session}
 use Rattle.session.specs.Calls.{deadSession}
@@ -20,6 +21,7 @@ use Rattle.records.proofs.Refusals.{sound-countable}
 use Rattle.image.specs.Image.{
   markOf,
   placeNumber,
+  telnetNumber,
   fourOctets,
   capped,
   marksOf,
@@ -27,6 +29,7 @@ use Rattle.image.specs.Image.{
   arraysOf,
   imageOf,
   placeOf,
+  telnetOf,
   countAt,
   isSet,
   part,
@@ -37,6 +40,7 @@ use Rattle.image.specs.Image.{
   isImage,
   sessionOf,
   Sized,
+  Numbered,
   Wrapped,
   ReadBack,
   DeadBack,
@@ -68,6 +72,27 @@ place-back Place.Holding = refl
 place-back Place.Flowing = refl
 place-back Place.Passing = refl
 place-back Place.Ended = refl
+
+telnet-most : (t : Telnet) → leb (telnetNumber t) 7 ≡ true
+telnet-most Telnet.Clear = refl
+telnet-most Telnet.Iac = refl
+telnet-most Telnet.Will = refl
+telnet-most Telnet.Wont = refl
+telnet-most Telnet.Do = refl
+telnet-most Telnet.Dont = refl
+telnet-most Telnet.Within = refl
+telnet-most Telnet.WithinIac = refl
+
+telnet-back : (t : Telnet) → telnetOf (telnetNumber t) ≡ t
+unfolding telnetOf
+telnet-back Telnet.Clear = refl
+telnet-back Telnet.Iac = refl
+telnet-back Telnet.Will = refl
+telnet-back Telnet.Wont = refl
+telnet-back Telnet.Do = refl
+telnet-back Telnet.Dont = refl
+telnet-back Telnet.Within = refl
+telnet-back Telnet.WithinIac = refl
 
 four-back : (n : ℕ) → n < 2 ^ 32
     → n % 256 + n / 256 % 256 * 256 + n / 65536 % 256 * 65536 + n / 16777216 % 256 * 16777216 ≡ n
@@ -102,9 +127,13 @@ module _ (s : Session) (rest : List ℕ) (h : Sized s) where
   unfolding imageOf marksOf atMost every
   places = rw (place-most (s .control .client .place), place-most (s .control .server .place))
 
+  telnets : atMost 7 (part image clientTelnetAt telnetsSize) ≡ true
+  unfolding imageOf marksOf atMost every
+  telnets = rw (telnet-most (s .control .up .telnet), telnet-most (s .control .down .telnet))
+
   pub image-is : isImage image ≡ true
   unfolding isImage
-  image-is = rw (enough, marks, places)
+  image-is = rw (enough, marks, places, telnets)
 
   -- ---- the arrays, behind marks and numbers
 
@@ -141,13 +170,13 @@ module _ (s : Session) (rest : List ℕ) (h : Sized s) where
 
   -- ---- the marks and the numbers
 
-  -- an opening code and counts that fit in 32 bits
-  module _ (opening : s .control .opening < 2 ^ 32) (owed : s .control .owed < 2 ^ 32) (command : s .control .client .held < 2 ^ 32) (reply : s .control .server .held < 2 ^ 32) where
+  -- numbers and counts that fit in 32 bits
+  module _ (numbers : Numbered (s .control)) (owed : s .control .owed < 2 ^ 32) (command : s .control .client .held < 2 ^ 32) (reply : s .control .server .held < 2 ^ 32) where
     control-back : controlIn image ≡ s .control
     unfolding controlIn countAt imageOf marksOf numbersOf fourOctets
     control-back =
         let c = s .control in
-        rw (bit-set (c .switches .epsv), bit-set (c .switches .eprt), place-back (c .client .place), place-back (c .server .place), four-back (c .opening) opening, capped-back (c .owed) owed, capped-back (c .client .held) command, capped-back (c .server .held) reply)
+        rw (bit-set (c .switches .epsv), bit-set (c .switches .eprt), place-back (c .client .place), place-back (c .server .place), telnet-back (c .up .telnet), telnet-back (c .down .telnet), four-back (c .opening) (numbers .opening), capped-back (c .owed) owed, capped-back (c .client .held) command, capped-back (c .server .held) reply, four-back (c .up .removed) (numbers .up), four-back (c .down .removed) (numbers .down))
 
     up-back : Wrapped (s .up) → countsAt image upTakenAt ≡ s .up
     unfolding countsAt countAt imageOf marksOf numbersOf fourOctets
@@ -171,9 +200,9 @@ module _ (s : Session) (rest : List ℕ) (h : Sized s) where
         rw (image-is, live-back, supported-back, client-back, mapped-back, kinds-back, command-back, reply-back, control-back, up-back u, down-back d)
 
 pub read-back : ReadBack
-read-back s rest h opening up down ok =
+read-back s rest h numbers up down ok =
     let k = sound-countable s ok in
-    fields-back s rest h opening (omega (arith, k .owed)) (omega (arith, k .command)) (omega (arith, k .reply)) up down
+    fields-back s rest h numbers (omega (arith, k .owed)) (omega (arith, k .command)) (omega (arith, k .reply)) up down
 
 pub dead-sized : Sized deadSession
 unfolding deadSession judged
@@ -190,7 +219,8 @@ pub dead-back : DeadBack
 unfolding deadSession
 dead-back rest =
     let none : Wrapped (deadSession .up) = record { taken = omega arith; written = omega arith } in
-    fields-back deadSession rest dead-sized (omega arith) (omega arith) (omega arith) (omega arith) none none
+    let zeros : Numbered (deadSession .control) = record { opening = omega arith; up = omega arith; down = omega arith } in
+    fields-back deadSession rest dead-sized zeros (omega arith) (omega arith) (omega arith) none none
 
 pub dead-zero : DeadZero
 unfolding deadSession judged imageOf marksOf numbersOf arraysOf fourOctets capped choose markOf

@@ -4,7 +4,7 @@ use mathlib.Core.Bool.{true}
 use mathlib.Core.List.{List, [], _∷_, _++_, append-assoc}
 use Prim.Native.Nat.{ℕ, _+_, _%_, _^_, _≤_, _<_}
 use native.Mathlib.Omega.{arith}
-use lib.ListN.{length, take, drop, set, getD, length-append}
+use lib.ListN.{length, take, drop, set, getD, length-append, length-set}
 use lib.Seq.{take-append-le, drop-append-le}
 use Rattle.rules.specs.Octets.{choose}
 use Rattle.rules.specs.Answers.{Side, client, server, wrapped}
@@ -14,7 +14,7 @@ use Rattle.output.proofs.Placing.{put-fits, length-put, one-put}
 use Rattle.output.proofs.Front.{front-put}
 use Rattle.session.specs.Calls.{endStep, sessionAfter}
 use Rattle.image.specs.Image.{fourOctets, capped, marksOf, numbersOf, arraysOf, imageOf, countAt, countsAt, controlIn, fieldsIn, isImage}
-use Rattle.image.specs.Lent.{endedWith, placeAt, heldAt, writtenAt}
+use Rattle.image.specs.Lent.{endedWith, placeAt, telnetAt, heldAt, writtenAt}
 use Rattle.image.proofs.Again.{image-long, fields-size, lies, count-kept}
 
 -- ---- a text with a part changed
@@ -53,36 +53,39 @@ stored l room {l′} {t} f i x there =
       size = over-length t i x (omega arith) ∙ size;
     }
 
--- ---- the three fields that an end changes
+-- ---- the four fields that an end changes
 
 -- they lie among the marks and numbers
-pub fields-low : (d : Side) → (placeAt d < openingAt) × (heldAt d ≤ serverHeldAt) × (writtenAt d ≤ downWrittenAt)
-fields-low client = (omega arith, omega arith, omega arith)
-fields-low server = (omega arith, omega arith, omega arith)
+pub fields-low : (d : Side) → (placeAt d < openingAt) × (telnetAt d < openingAt) × (heldAt d ≤ serverHeldAt) × (writtenAt d ≤ downWrittenAt)
+fields-low client = (omega arith, omega arith, omega arith, omega arith)
+fields-low server = (omega arith, omega arith, omega arith, omega arith)
 
 module _ (image : List ℕ) (ok : isImage image ≡ true) (octets : (i : ℕ) → getD image i 0 < 256) where
   -- in the image of its record
   end-over : (d : Side) (n : ℕ)
-      → over (over (over (imageOf (fieldsIn image)) (placeAt d) (3 ∷ [])) (heldAt d) (fourOctets 0)) (writtenAt d) (fourOctets (wrapped (countAt image (writtenAt d) + n)))
+      → over (over (over (over (imageOf (fieldsIn image)) (placeAt d) (3 ∷ [])) (telnetAt d) (0 ∷ [])) (heldAt d) (fourOctets 0)) (writtenAt d) (fourOctets (wrapped (countAt image (writtenAt d) + n)))
       ≡ imageOf (endedWith (fieldsIn image) d n)
   unfolding imageOf marksOf numbersOf arraysOf fourOctets capped choose fieldsIn controlIn countsAt sessionAfter endStep
   end-over client n = rw (count-kept image ok octets upTakenAt, count-kept image ok octets downTakenAt, count-kept image ok octets downWrittenAt)
   end-over server n = rw (count-kept image ok octets upTakenAt, count-kept image ok octets upWrittenAt, count-kept image ok octets downTakenAt)
 
   -- and in memory, where the code stores them
-  pub end-stored : (d : Side) (n : ℕ) {place count sum before more : ℕ} {counted summed : List ℕ} → place ≡ placeAt d → count ≡ heldAt d
-      → sum ≡ writtenAt d → before ≡ countAt image sum → more ≡ (before + n) % 2 ^ 32 → counted ≡ putAt (set image place 3) count (fourOctets 0)
-      → summed ≡ putAt counted sum (fourOctets more) → summed ≡ putAt image 0 (imageOf (endedWith (fieldsIn image) d n))
+  pub end-stored : (d : Side) (n : ℕ) {place mark count sum before more : ℕ} {counted summed : List ℕ} → place ≡ placeAt d → mark ≡ telnetAt d
+      → count ≡ heldAt d → sum ≡ writtenAt d → before ≡ countAt image sum → more ≡ (before + n) % 2 ^ 32
+      → counted ≡ putAt (set (set image place 3) mark 0) count (fourOctets 0) → summed ≡ putAt counted sum (fourOctets more)
+      → summed ≡ putAt image 0 (imageOf (endedWith (fieldsIn image) d n))
   unfolding wrapped fourOctets
-  end-stored d n {place} ep ec es eb em put put′ =
+  end-stored d n {place} {mark} ep et ec es eb em put put′ =
       let long = image-long image ok in
       let low = fields-low d in
-      let mark = one-put image place 3 (omega arith) ∙ ap (λ (p : ℕ). putAt image p (3 ∷ [])) ep in
+      let ended = one-put image place 3 (omega arith) ∙ ap (λ (p : ℕ). putAt image p (3 ∷ [])) ep in
+      let clear = one-put (set image place 3) mark 0 (omega (arith, length-set image place 3)) ∙ (λ i. putAt (ended i) (et i) (0 ∷ [])) in
       let number = em ∙ ap (λ (b : ℕ). wrapped (b + n)) (eb ∙ ap (countAt image) es) in
       let first : Fronted image image (imageOf (fieldsIn image)) = record { here = sym (lies image ok octets); size = fields-size image ok octets } in
-      let marked = stored image long first (placeAt d) (3 ∷ []) (omega arith) in
+      let placed = stored image long first (placeAt d) (3 ∷ []) (omega arith) in
+      let marked = stored image long placed (telnetAt d) (0 ∷ []) (omega arith) in
       let emptied = stored image long marked (heldAt d) (fourOctets 0) (omega arith) in
       let done = stored image long emptied (writtenAt d) (fourOctets (wrapped (countAt image (writtenAt d) + n))) (omega arith) in
       put′
-      ∙ ((λ i. putAt ((put ∙ (λ j. putAt (mark j) (ec j) (fourOctets 0))) i) (es i) (fourOctets (number i)))
+      ∙ ((λ i. putAt ((put ∙ (λ j. putAt (clear j) (ec j) (fourOctets 0))) i) (es i) (fourOctets (number i)))
       ∙ (done .here ∙ ap (putAt image 0) (end-over d n)))

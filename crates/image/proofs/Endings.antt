@@ -3,7 +3,7 @@ use mathlib.Core.Path.{_≡_, refl, sym, ap, subst, _∙_}
 use mathlib.Core.Bool.{true}
 use mathlib.Core.List.{List}
 use mathlib.Core.Option.{none}
-use Prim.Native.Nat.{ℕ, _+_, _-_, _≤_, _<_}
+use Prim.Native.Nat.{ℕ, _+_, _-_, _*_, _^_, _≤_, _<_}
 use native.Mathlib.Omega.{arith}
 use lib.ListN.{length, take, drop, getD, length-drop}
 use lib.Seq.{length-take-le, take-take}
@@ -12,19 +12,21 @@ use Rattle.rules.specs.Answers.{Side, client, server}
 use Rattle.rules.specs.declared.Answer.{Answer}
 use Rattle.rules.specs.Lines.{mostHeld, passed}
 use Rattle.records.specs.Layout.{replyAt}
-use Rattle.output.specs.Buffer.{putAt, positionAfter}
-use Rattle.output.proofs.Placing.{after-fits}
+use Rattle.octets.proofs.Passed.{passed-most}
+use Rattle.output.specs.Buffer.{putAt}
+use Rattle.output.proofs.Placing.{Wrote}
 use Rattle.records.specs.declared.Control.{Control}
 use Rattle.records.specs.declared.Session.{Session}
 use Rattle.records.specs.Sound.{directionOf, refusalOf, Counted}
+use Rattle.records.specs.Controls.{unfinishedOf}
 use Rattle.steps.specs.declared.Written.{Written}
 use Rattle.steps.specs.Steps.{heldOf}
 use Rattle.session.specs.declared.Called.{Called}
 use Rattle.session.specs.Calls.{Outcome, stateOf, sessionAfter, refused, writtenFrom, endStep, heldEnd, bufferAfter, endCalled}
-use Rattle.session.proofs.Outcomes.{no-room, passed-on, untouched, client-ends, server-ends}
+use Rattle.session.proofs.Outcomes.{no-room, let-go, passed-on, untouched, client-ends, server-ends}
 use Rattle.image.specs.declared.arrival.Told.{Told}
-use Rattle.image.specs.Image.{imageOf, countAt, part, controlIn, fieldsIn, isImage, sessionOf}
-use Rattle.image.specs.Lent.{endedWith, heldAt, lineAt, imageAfter, serverAfter, clientAfter, Tells}
+use Rattle.image.specs.Image.{imageOf, part, controlIn, fieldsIn, isImage, sessionOf}
+use Rattle.image.specs.Lent.{endedWith, lineAt, imageAfter, serverAfter, clientAfter, Tells}
 use Rattle.image.proofs.Again.{image-long, lies}
 use Rattle.image.proofs.Arrivals.{Left, ToldOnly, free-fields}
 
@@ -40,12 +42,6 @@ pub line-low : (d : Side) {at : ℕ} → at ≡ lineAt d → at ≤ replyAt
 line-low client e = omega arith
 line-low server e = omega arith
 
--- the number that tells how many octets a side holds
-pub held-here : (image : List ℕ) (d : Side) {count h : ℕ} → count ≡ heldAt d → h ≡ countAt image count → h ≡ directionOf d (controlIn image) .held
-unfolding controlIn
-held-here image client p q = q ∙ ap (countAt image) p
-held-here image server p q = q ∙ ap (countAt image) p
-
 pub held-low : (image : List ℕ) (d : Side) {h : ℕ} → Counted (controlIn image) → h ≡ directionOf d (controlIn image) .held → h ≤ mostHeld
 held-low image d k e = let low = few d k in omega arith
 
@@ -56,6 +52,7 @@ abbrev pub LeftOne : Side → Outcome → Told → List ℕ → List ℕ → Lis
 LeftOne d o r image image′ out out′ =
     (Tells r (o .called) × (image′ ≡ imageAfter image (o .called))) × (out′ ≡ bufferAfter d o out)
 
+-- h octets are held from `at` on, and b has come of a Telnet command
 module _ (image out : List ℕ) (ok : isImage image ≡ true) (d : Side) {h at : ℕ} (eh : h ≡ directionOf d (controlIn image) .held)
     (k : Counted (controlIn image)) (ea : at ≡ lineAt d) where
   abbrev s : Session
@@ -78,37 +75,45 @@ module _ (image out : List ℕ) (ok : isImage image ≡ true) (d : Side) {h at :
   passed-is : passed read ≡ passed (heldOf d (stateOf s))
   passed-is = ap passed read-is
 
-  -- where they have no room
-  pub no-room-left : ((i : ℕ) → getD image i 0 < 256) → {n : ℕ} → n ≡ length (passed read) → length out < n → {r : Told} → ToldOnly r Answer.NoRoom
-      → LeftOne d (heldEnd s d (length out)) r image image out out
-  unfolding refused imageAfter choose
-  no-room-left octets size less {r} e =
-      let left = no-room s d out (size ∙ ap length passed-is) less refl in (
-        subst (λ (x : Called). Tells r x × (image ≡ imageAfter image x)) (left .0)
-            (rw e (record { answer = refl; taken = refl; written = refl }), sym (lies image ok octets)),
-        left .1,
-      )
+  -- they give at most twice as many
+  pub passed-few : length (passed read) ≤ 2 * mostHeld
+  passed-few =
+      let low = held-low image d k eh in
+      let first = line-low d ea in
+      let long = image-long image ok in
+      omega (arith, passed-most read, length-take-le (at + h - at) (drop at image) (omega (arith, length-drop at image)))
 
-  -- where they have room, and n octets were put for them
-  module _ {m n : ℕ} (em : m ≡ length (passed read)) (fit : m ≤ length out) (en : n ≡ positionAfter out 0 (passed read)) where
-    pub few-put : n ≤ mostHeld
-    few-put =
-        let low = held-low image d k eh in
-        let first = line-low d ea in
-        let long = image-long image ok in
-        omega (arith, after-fits out 0 (passed read) (omega arith), length-take-le (at + h - at) (drop at image) (omega (arith, length-drop at image)))
+  module _ {b : List ℕ} (eb : b ≡ unfinishedOf d (controlIn image)) {m n : ℕ} (em : m ≡ length (passed read)) (en : n ≡ length b) where
+    unfinished-is : b ≡ unfinishedOf d (s .control)
+    unfolding fieldsIn
+    unfinished-is = eb
 
-    pub ended-left : {out′ image′ : List ℕ} {w : Written} → out′ ≡ putAt out 0 (passed read) → w ≡ writtenFrom d n
-        → image′ ≡ putAt image 0 (imageOf (endedWith s d n))
-        → LeftOne d (heldEnd s d (length out)) (record { answer = Answer.Done; taken = 0; written = w }) image image′ out out′
-    unfolding imageAfter choose
-    ended-left {out′} {image′} {w} eo ew put =
-        let next : Written → Session = λ x. sessionAfter s d 0 (x .server) (x .client) (endStep d (stateOf s) .state) in
-        let left = passed-on s d out (em ∙ ap length passed-is) fit (en ∙ ap (positionAfter out 0) passed-is) (eo ∙ ap (putAt out 0) passed-is) ew refl in (
-          subst (λ (x : Called). Tells (record { answer = Answer.Done; taken = 0; written = w }) x × (image′ ≡ imageAfter image x)) (left .0)
-              (record { answer = refl; taken = refl; written = refl }, put ∙ ap (λ (x : Written). putAt image 0 (imageOf (next x))) (sym ew)),
+    -- where they have no room
+    pub no-room-left : ((i : ℕ) → getD image i 0 < 256) → length out < m + n → {r : Told} → ToldOnly r Answer.NoRoom
+        → LeftOne d (heldEnd s d (length out)) r image image out out
+    unfolding refused imageAfter choose
+    no-room-left octets less {r} e =
+        let left = no-room s d out passed-is unfinished-is em en less refl in (
+          subst (λ (x : Called). Tells r x × (image ≡ imageAfter image x)) (left .0)
+              (rw e (record { answer = refl; taken = refl; written = refl }), sym (lies image ok octets)),
           left .1,
         )
+
+    -- where they have room, and were put behind each other
+    module _ (fit : m + n ≤ length out) {next w : ℕ} {after out′ : List ℕ} (one : Wrote out 0 (passed read) next after) (two : Wrote after next b w out′) where
+      pub few-put : n ≤ 2 → w < 2 ^ 32
+      few-put little = omega (arith, passed-few, let-go s d out passed-is unfinished-is em en fit one two)
+
+      pub ended-left : {image′ : List ℕ} {told : Written} → told ≡ writtenFrom d w → image′ ≡ putAt image 0 (imageOf (endedWith s d w))
+          → LeftOne d (heldEnd s d (length out)) (record { answer = Answer.Done; taken = 0; written = told }) image image′ out out′
+      unfolding imageAfter choose
+      ended-left {image′} {told} ew put =
+          let then : Written → Session = λ x. sessionAfter s d 0 (x .server) (x .client) (endStep d (stateOf s) .state) in
+          let left = passed-on s d out passed-is unfinished-is em en fit one two ew refl in (
+            subst (λ (x : Called). Tells (record { answer = Answer.Done; taken = 0; written = told }) x × (image′ ≡ imageAfter image x)) (left .0)
+                (record { answer = refl; taken = refl; written = refl }, put ∙ ap (λ (x : Written). putAt image 0 (imageOf (then x))) (sym ew)),
+            left .1,
+          )
 
 -- ---- an end of a direction by its number
 

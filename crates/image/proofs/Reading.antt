@@ -4,18 +4,20 @@ use mathlib.Core.Bool.{Bool, true, false, _&&_, not}
 use mathlib.Core.List.{List}
 use Prim.Native.Nat.{ℕ, zero, suc, _+_, _≤_, _<_}
 use native.Mathlib.Omega.{arith}
-use lib.ListN.{length, drop, replicate, length-drop}
+use lib.ListN.{length, getD, drop, replicate, length-drop}
 use lib.Dec.{leb}
 use lib.Seq.{length-take-le}
 use borrow.Author.Tests.{le-leb, lt-leb, leb-true, not-true, not-false}
 use Rattle.rules.specs.Octets.{choose}
 use Rattle.rules.specs.Answers.{soundRecord, mostOwed}
 use Rattle.rules.specs.declared.Answer.{Answer}
+use Rattle.rules.specs.declared.Telnet.{Telnet}
 use Rattle.rules.specs.Lines.{mostHeld}
 use Rattle.rules.specs.Setup.{ipv6Width, ipv4Width}
-use Rattle.records.specs.Layout.{liveAt, supportedAt, clientPlaceAt, upTakenAt, downTakenAt, clientAt, mappedAt, kindsAt, commandAt, replyAt, imageSize, bitsSize, placesSize}
+use Rattle.records.specs.Layout.{liveAt, supportedAt, epsvAt, eprtAt, clientPlaceAt, serverPlaceAt, clientTelnetAt, serverTelnetAt, openingAt, owedAt, clientHeldAt, serverHeldAt, upTakenAt, downTakenAt, upRemovedAt, downRemovedAt, clientAt, mappedAt, kindsAt, commandAt, replyAt, imageSize, bitsSize, placesSize, telnetsSize}
 use Rattle.octets.proofs.Ranges.{and-both}
 use Rattle.places.specs.declared.Place.{Place}
+use Rattle.places.specs.Places.{at}
 use Rattle.output.specs.Buffer.{putAt}
 use Rattle.output.proofs.Front.{filled}
 use Rattle.records.specs.declared.Control.{Control}
@@ -25,7 +27,7 @@ use Rattle.records.specs.declared.Refusal.{Refusal}
 use Rattle.records.specs.Sound.{sound, refusalOn, refusalOf, refusalBy}
 use Rattle.records.proofs.Refusals.{unsound}
 use Rattle.session.specs.Calls.{deadSession}
-use Rattle.image.specs.Image.{placeOf, isSet, part, countsAt, controlIn, fieldsIn, atMost, isImage, sessionOf}
+use Rattle.image.specs.Image.{placeOf, telnetOf, isSet, part, countAt, countsAt, controlIn, fieldsIn, atMost, isImage, sessionOf}
 
 pub place-other : (n : ℕ) → (n ≡ 0 → ⊥) → (n ≡ 1 → ⊥) → (n ≡ 2 → ⊥) → Place.Ended ≡ placeOf n
 unfolding placeOf
@@ -34,12 +36,43 @@ place-other (suc zero) a b c = absurd (b refl)
 place-other (suc (suc zero)) a b c = absurd (c refl)
 place-other (suc (suc (suc n))) a b c = refl
 
+pub telnet-other : (n : ℕ) → (n ≡ 0 → ⊥) → (n ≡ 1 → ⊥) → (n ≡ 2 → ⊥) → (n ≡ 3 → ⊥) → (n ≡ 4 → ⊥) → (n ≡ 5 → ⊥) → (n ≡ 6 → ⊥)
+    → Telnet.WithinIac ≡ telnetOf n
+unfolding telnetOf
+telnet-other zero a b c d e f g = absurd (a refl)
+telnet-other (suc zero) a b c d e f g = absurd (b refl)
+telnet-other (suc (suc zero)) a b c d e f g = absurd (c refl)
+telnet-other (suc (suc (suc zero))) a b c d e f g = absurd (d refl)
+telnet-other (suc (suc (suc (suc zero)))) a b c d e f g = absurd (e refl)
+telnet-other (suc (suc (suc (suc (suc zero))))) a b c d e f g = absurd (f refl)
+telnet-other (suc (suc (suc (suc (suc (suc zero)))))) a b c d e f g = absurd (g refl)
+telnet-other (suc (suc (suc (suc (suc (suc (suc n))))))) a b c d e f g = refl
+
 -- a part of an image that was copied
 pub copied : (image : List ℕ) (i n : ℕ) → i + n ≤ length image → {r : List ℕ} → r ≡ putAt (replicate n 0) 0 (part image i n)
     → r ≡ part image i n
 copied image i n there e =
     let left : n ≤ length (drop i image) = rw length-drop (omega arith) in
     e ∙ filled n (part image i n) (length-take-le n (drop i image) left)
+
+-- a control of the values that were read
+pub control-read : (image : List ℕ) {client server : Place} {up down : Telnet} {command reply said answered owed opening : ℕ}
+    → client ≡ placeOf (getD image clientPlaceAt 0) → command ≡ countAt image clientHeldAt → server ≡ placeOf (getD image serverPlaceAt 0)
+    → reply ≡ countAt image serverHeldAt → up ≡ telnetOf (getD image clientTelnetAt 0) → said ≡ countAt image upRemovedAt
+    → down ≡ telnetOf (getD image serverTelnetAt 0) → answered ≡ countAt image downRemovedAt → owed ≡ countAt image owedAt → opening ≡ countAt image openingAt
+    → _≡_ {A = Control}
+    (record {
+      switches = record { epsv = isSet image epsvAt; eprt = isSet image eprtAt };
+      client = at client command;
+      server = at server reply;
+      owed = owed;
+      opening = opening;
+      up = record { telnet = up; removed = said };
+      down = record { telnet = down; removed = answered };
+    })
+    (controlIn image)
+unfolding controlIn
+control-read image a b c d e f g h j k = rw (a, b, c, d, e, f, g, h, j, k)
 
 -- a record of the parts that were read
 pub fields-read : (image : List ℕ) {client mapped kinds command reply : List ℕ} {control : Control} {up down : Counts}
@@ -71,18 +104,25 @@ module _ (image : List ℕ) where
   unfolding isImage
   no-mark h {b} e t = rw (le-leb imageSize (length image) h, sym e ∙ not-true b t)
 
-  -- the places decide where the other tests hold
-  pub by-places : imageSize ≤ length image → {a b : Bool} → a ≡ atMost 1 (part image liveAt bitsSize) → not a ≡ false
-      → b ≡ atMost 3 (part image clientPlaceAt placesSize) → b ≡ isImage image
-  unfolding isImage
-  by-places h {a} e t f = rw (le-leb imageSize (length image) h, sym e ∙ not-false a t) f
+  -- the first two tests hold
+  module _ (h : imageSize ≤ length image) {a : Bool} (e : a ≡ atMost 1 (part image liveAt bitsSize)) (t : not a ≡ false) where
+    pub no-place : {b : Bool} → b ≡ atMost 3 (part image clientPlaceAt placesSize) → not b ≡ true → false ≡ isImage image
+    unfolding isImage
+    no-place {b} f u = rw (le-leb imageSize (length image) h, sym e ∙ not-false a t, sym f ∙ not-true b u)
+
+    -- the Telnet states decide where the places are some
+    pub by-telnets : {b c : Bool} → b ≡ atMost 3 (part image clientPlaceAt placesSize) → not b ≡ false
+        → c ≡ atMost 7 (part image clientTelnetAt telnetsSize) → c ≡ isImage image
+    unfolding isImage
+    by-telnets {b} f u g = rw (le-leb imageSize (length image) h, sym e ∙ not-false a t, sym f ∙ not-false b u) g
 
   pub image-size : {b : Bool} → b ≡ isImage image → not b ≡ false → imageSize ≤ length image
   unfolding isImage
   image-size {b} e t =
       let long = leb imageSize (length image) in
       let marked = atMost 1 (part image liveAt bitsSize) in
-      leb-true imageSize (length image) (and-both long marked (and-both (long && marked) _ (sym e ∙ not-false b t) .0) .0)
+      let placed = atMost 3 (part image clientPlaceAt placesSize) in
+      leb-true imageSize (length image) (and-both long marked (and-both (long && marked) placed (and-both (long && marked && placed) _ (sym e ∙ not-false b t) .0) .0) .0)
 
   pub no-image : {b : Bool} → b ≡ isImage image → not b ≡ true → deadSession ≡ sessionOf image
   unfolding sessionOf choose

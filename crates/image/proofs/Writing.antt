@@ -1,13 +1,13 @@
 -- The parts of an image written one after another, and their length.
-use mathlib.Core.Path.{_≡_, refl, subst}
+use mathlib.Core.Path.{_≡_, refl, sym, subst, _∙_}
 use mathlib.Core.Bool.{Bool}
 use mathlib.Core.List.{List, _++_}
-use Prim.Native.Nat.{ℕ}
+use Prim.Native.Nat.{ℕ, _+_, _≤_}
 use native.Mathlib.Omega.{arith}
 use lib.ListN.{length, length-append}
-use Rattle.records.specs.Layout.{clientAt, imageSize, lentSize}
-use Rattle.output.specs.Buffer.{PutInRoom}
-use Rattle.output.proofs.Placing.{Wrote, joined}
+use Rattle.records.specs.Layout.{openingAt, clientAt, imageSize, lentSize}
+use Rattle.output.specs.Buffer.{PutInRoom, putAt, positionAfter}
+use Rattle.output.proofs.Placing.{Wrote, after-fits, joined}
 use Rattle.records.specs.declared.Control.{Control}
 use Rattle.records.specs.declared.Counts.{Counts}
 use Rattle.records.specs.declared.Session.{Session}
@@ -18,12 +18,23 @@ pub andThen : (out : List ℕ) (at : ℕ) (a b : List ℕ) {after last : List �
     → PutInRoom after next b end last → PutInRoom out at (a ++ b) end last
 andThen out at a b one rest = joined out at a b (λ room. one) rest
 
--- numbers that were put, where they are the opening code and the counts of a control, in 32 bits
-pub numbers-put : (out : List ℕ) (at : ℕ) (c : Control) (up down : Counts) {owed command reply end : ℕ} {last : List ℕ} → owed ≡ capped (c .owed)
+-- the same, where those behind it are put at the place where it ends
+pub behind : (out : List ℕ) (at : ℕ) (a b : List ℕ) (place : ℕ) {after last : List ℕ} {next end : ℕ} → place ≡ at + length a → PutInRoom out at a next after
+    → PutInRoom after place b end last → PutInRoom out at (a ++ b) end last
+behind out at a b place {after} {last} {next} {end} e one rest room =
+    let first : at + length a ≤ length out = omega (arith, length-append a b) in
+    let same : next ≡ place = one first .0 ∙ (after-fits out at a first ∙ sym e) in
+    joined out at a b one (subst (λ (n : ℕ). PutInRoom after n b end last) (sym same) rest) room
+
+-- what a function promises that does not tell the next position
+pub as-put : (out : List ℕ) (at : ℕ) (text : List ℕ) {last : List ℕ} → last ≡ putAt out at text → PutInRoom out at text (positionAfter out at text) last
+as-put out at text e room = (refl, e)
+
+-- numbers that were put, where they are the counts of a control, in 32 bits
+pub numbers-put : (out : List ℕ) (c : Control) (up down : Counts) {owed command reply : ℕ} {last : List ℕ} → owed ≡ capped (c .owed)
     → command ≡ capped (c .client .held) → reply ≡ capped (c .server .held)
-    → PutInRoom out at (numbersBy (c .opening) owed command reply up down) end last → PutInRoom out at (numbersFrom c up down) end last
-numbers-put out at c up down {end = end} {last = last} eo ec er =
-    subst (λ (l : List ℕ). PutInRoom out at l end last) (λ i. numbersBy (c .opening) (eo i) (ec i) (er i) up down)
+    → last ≡ putAt out openingAt (numbersBy c owed command reply up down) → last ≡ putAt out openingAt (numbersFrom c up down)
+numbers-put out c up down eo ec er put = put ∙ (λ i. putAt out openingAt (numbersBy c (eo i) (ec i) (er i) up down))
 
 pub front-length : (live supported : Bool) (c : Control) (up down : Counts) → length (marksFrom live supported c ++ numbersFrom c up down) ≡ clientAt
 unfolding fourOctets

@@ -10,7 +10,8 @@ use Rattle.rules.specs.Lines.{mostHeld}
 use Rattle.rules.specs.Answers.{mostOwed}
 use Rattle.rules.specs.Setup.{ipv6Width, ipv4Width}
 use Rattle.rules.specs.declared.Fixed.{Fixed}
-use Rattle.records.specs.Layout.{numberWidth, liveAt, supportedAt, epsvAt, eprtAt, clientPlaceAt, serverPlaceAt, openingAt, owedAt, clientHeldAt, serverHeldAt, upTakenAt, downTakenAt, clientAt, mappedAt, kindsAt, commandAt, replyAt, imageSize, bitsSize, placesSize}
+use Rattle.rules.specs.declared.Telnet.{Telnet}
+use Rattle.records.specs.Layout.{numberWidth, liveAt, supportedAt, epsvAt, eprtAt, clientPlaceAt, serverPlaceAt, clientTelnetAt, serverTelnetAt, openingAt, owedAt, clientHeldAt, serverHeldAt, upTakenAt, downTakenAt, upRemovedAt, downRemovedAt, clientAt, mappedAt, kindsAt, commandAt, replyAt, imageSize, bitsSize, placesSize, telnetsSize}
 use Rattle.places.specs.declared.Place.{Place}
 use Rattle.places.specs.Places.{at}
 use Rattle.records.specs.declared.Control.{Control}
@@ -33,6 +34,17 @@ placeNumber Place.Flowing = 1
 placeNumber Place.Passing = 2
 placeNumber Place.Ended = 3
 
+-- a Telnet state in one octet
+abbrev pub telnetNumber : Telnet → ℕ
+telnetNumber Telnet.Clear = 0
+telnetNumber Telnet.Iac = 1
+telnetNumber Telnet.Will = 2
+telnetNumber Telnet.Wont = 3
+telnetNumber Telnet.Do = 4
+telnetNumber Telnet.Dont = 5
+telnetNumber Telnet.Within = 6
+telnetNumber Telnet.WithinIac = 7
+
 -- a number of 32 bits in four octets, low octet first
 unfoldable pub fourOctets : ℕ → List ℕ
 fourOctets n = n % 256 ∷ n / 256 % 256 ∷ n / 65536 % 256 ∷ n / 16777216 % 256 ∷ []
@@ -47,7 +59,8 @@ capped n = choose (leb n (2 ^ 32 - 1)) n (2 ^ 32 - 1)
 abbrev pub marksIn : Control → List ℕ
 marksIn c =
     markOf (c .switches .epsv) ∷ markOf (c .switches .eprt)
-    ∷ placeNumber (c .client .place) ∷ placeNumber (c .server .place) ∷ []
+    ∷ placeNumber (c .client .place) ∷ placeNumber (c .server .place)
+    ∷ telnetNumber (c .up .telnet) ∷ telnetNumber (c .down .telnet) ∷ []
 
 -- behind two that stay from the setup on
 abbrev pub marksFrom : Bool → Bool → Control → List ℕ
@@ -57,21 +70,23 @@ marksFrom live supported c = markOf live ∷ markOf supported ∷ marksIn c
 unfoldable pub marksOf : Session → List ℕ
 marksOf s = marksFrom (s .live) (s .fixed .supported) (s .control)
 
--- the opening code, the replies owed, the octets held of both lines, and what is counted
-abbrev pub numbersBy : ℕ → ℕ → ℕ → ℕ → Counts → Counts → List ℕ
-numbersBy opening owed command reply up down =
-    fourOctets opening
+-- the opening code, the replies owed, the octets held of both lines, what is counted, and the octets removed
+abbrev pub numbersBy : Control → ℕ → ℕ → ℕ → Counts → Counts → List ℕ
+numbersBy c owed command reply up down =
+    fourOctets (c .opening)
     ++ (fourOctets owed
     ++ (fourOctets command
     ++ (fourOctets reply
     ++ (fourOctets (up .taken)
     ++ (fourOctets (up .written)
     ++ (fourOctets (down .taken)
-    ++ fourOctets (down .written)))))))
+    ++ (fourOctets (down .written)
+    ++ (fourOctets (c .up .removed)
+    ++ fourOctets (c .down .removed)))))))))
 
--- the same of a control, each count in 32 bits
+-- the same, each count of the control in 32 bits
 abbrev pub numbersFrom : Control → Counts → Counts → List ℕ
-numbersFrom c up down = numbersBy (c .opening) (capped (c .owed)) (capped (c .client .held)) (capped (c .server .held)) up down
+numbersFrom c up down = numbersBy c (capped (c .owed)) (capped (c .client .held)) (capped (c .server .held)) up down
 
 -- all numbers of a record
 unfoldable pub numbersOf : Session → List ℕ
@@ -98,6 +113,17 @@ placeOf (suc zero) = Place.Flowing
 placeOf (suc (suc zero)) = Place.Passing
 placeOf (suc (suc (suc n))) = Place.Ended
 
+-- the Telnet state of a number
+unfoldable pub telnetOf : ℕ → Telnet
+telnetOf zero = Telnet.Clear
+telnetOf (suc zero) = Telnet.Iac
+telnetOf (suc (suc zero)) = Telnet.Will
+telnetOf (suc (suc (suc zero))) = Telnet.Wont
+telnetOf (suc (suc (suc (suc zero)))) = Telnet.Do
+telnetOf (suc (suc (suc (suc (suc zero))))) = Telnet.Dont
+telnetOf (suc (suc (suc (suc (suc (suc zero)))))) = Telnet.Within
+telnetOf (suc (suc (suc (suc (suc (suc (suc n))))))) = Telnet.WithinIac
+
 -- the number in the four octets at a position, low octet first
 unfoldable pub countAt : List ℕ → ℕ → ℕ
 countAt image i =
@@ -120,6 +146,8 @@ controlIn image =
       server = at (placeOf (getD image serverPlaceAt 0)) (countAt image serverHeldAt);
       owed = countAt image owedAt;
       opening = countAt image openingAt;
+      up = record { telnet = telnetOf (getD image clientTelnetAt 0); removed = countAt image upRemovedAt };
+      down = record { telnet = telnetOf (getD image serverTelnetAt 0); removed = countAt image downRemovedAt };
     }
 
 -- what the setup fixed
@@ -151,7 +179,9 @@ atMost most octets = every (λ n. leb n most) octets
 
 -- there are octets enough, and each mark has a value of its field
 unfoldable pub isImage : List ℕ → Bool
-isImage image = leb imageSize (length image) && atMost 1 (part image liveAt bitsSize) && atMost 3 (part image clientPlaceAt placesSize)
+isImage image =
+    leb imageSize (length image) && atMost 1 (part image liveAt bitsSize) && atMost 3 (part image clientPlaceAt placesSize)
+    && atMost 7 (part image clientTelnetAt telnetsSize)
 
 -- what is no image is the record of a refused setup, which number 4 refuses
 unfoldable pub sessionOf : List ℕ → Session
@@ -167,7 +197,13 @@ pub record Sized (s : Session) : Type 0 where
   pub command : length (s .command) ≡ mostHeld
   pub reply : length (s .reply) ≡ mostHeld
 
--- and what those of its counters say
+-- what those of its control's numbers say
+pub record Numbered (c : Control) : Type 0 where
+  pub opening : c .opening < 2 ^ 32
+  pub up : c .up .removed < 2 ^ 32
+  pub down : c .down .removed < 2 ^ 32
+
+-- and those of its counters
 pub record Wrapped (c : Counts) : Type 0 where
   pub taken : c .taken < 2 ^ 32
   pub written : c .written < 2 ^ 32
@@ -175,7 +211,7 @@ pub record Wrapped (c : Counts) : Type 0 where
 -- a record that number 4 does not refuse comes back from its image, whatever octets follow it
 abbrev pub ReadBack : Type 0
 ReadBack =
-    (s : Session) (rest : List ℕ) → Sized s → s .control .opening < 2 ^ 32 → Wrapped (s .up) → Wrapped (s .down) → sound s ≡ true
+    (s : Session) (rest : List ℕ) → Sized s → Numbered (s .control) → Wrapped (s .up) → Wrapped (s .down) → sound s ≡ true
     → sessionOf (imageOf s ++ rest) ≡ s
 
 -- so does that of a refused setup

@@ -6,7 +6,7 @@ use lib.Dec.{leb}
 use lib.ListN.{length}
 use Rattle.rules.specs.Octets.{choose}
 use Rattle.rules.specs.Answers.{Side, client, server, answerNumber}
-use Rattle.records.specs.Layout.{commandAt, replyAt, clientPlaceAt, serverPlaceAt, clientHeldAt, serverHeldAt, upWrittenAt, downWrittenAt}
+use Rattle.records.specs.Layout.{commandAt, replyAt, clientPlaceAt, serverPlaceAt, clientTelnetAt, serverTelnetAt, clientHeldAt, serverHeldAt, upWrittenAt, downWrittenAt}
 use Rattle.output.specs.Buffer.{putAt}
 use Rattle.records.specs.declared.Session.{Session}
 use Rattle.session.specs.declared.Called.{Called}
@@ -43,6 +43,11 @@ endedWith s d n = sessionAfter s d 0 (writtenFrom d n .server) (writtenFrom d n 
 abbrev pub placeAt : Side → ℕ
 placeAt client = clientPlaceAt
 placeAt server = serverPlaceAt
+
+-- its Telnet state
+abbrev pub telnetAt : Side → ℕ
+telnetAt client = clientTelnetAt
+telnetAt server = serverTelnetAt
 
 -- the number of its held octets
 abbrev pub heldAt : Side → ℕ

@@ -4,13 +4,13 @@ ghost use Prim.Native.Nat.{_+_, _≤_};
 ghost use mathlib.Core.List.{_++_};
 ghost use lib.ListN.{length};
 ghost use Rattle.rules.specs.Lines.{mostHeld};
-ghost use Rattle.records.specs.Layout.{numberWidth, epsvAt, imageSize};
+ghost use Rattle.records.specs.Layout.{numberWidth, epsvAt, openingAt, imageSize};
 ghost use Rattle.output.specs.Buffer.{Put, putAt, PutInRoom};
 ghost use Rattle.records.specs.Sound.{refusalOf, refusalBy, Counted};
 ghost use Rattle.session.specs.Calls.{deadSession};
-ghost use Rattle.image.specs.Image.{markOf as bitOf, placeNumber, fourOctets, capped as cappedAt, marksIn};
-ghost use Rattle.image.specs.Image.{marksFrom, numbersBy, numbersFrom, arraysOf, imageOf, placeOf, countAt};
-ghost use Rattle.image.specs.Image.{countsAt, controlIn, fieldsIn, atMost, isImage, sessionOf};
+ghost use Rattle.image.specs.Image.{markOf as bitOf, placeNumber, telnetNumber, fourOctets, capped as cappedAt};
+ghost use Rattle.image.specs.Image.{marksIn, marksFrom, numbersBy, numbersFrom, arraysOf, imageOf, placeOf};
+ghost use Rattle.image.specs.Image.{telnetOf, countAt, countsAt, controlIn, fieldsIn, atMost, isImage, sessionOf};
 use output::ipv4_from;
 use output::ipv6_from;
 use output::put;
@@ -25,7 +25,9 @@ use records::layout;
 use records::refusal_on;
 use rules::Answer;
 use rules::Fixed;
+use rules::Layer;
 use rules::Switches;
+use rules::Telnet;
 use session::held_line;
 use session::refused_setup;
 
@@ -47,23 +49,14 @@ pub fn put_image(image: &mut [u8], session: Session)
     let fixed = session.fixed;
     let up = session.up;
     let down = session.down;
-    let marked = put_marks(image, layout::LIVE, session.live, fixed.supported, control);
+    put_marks(image, layout::LIVE, session.live, fixed.supported, control);
     let said = control.client;
     let answered = control.server;
     let owed = capped(control.owed);
     let command = capped(said.held);
     let reply = capped(answered.held);
-    let counted = put_numbers(
-        image,
-        marked,
-        control.opening,
-        owed,
-        command,
-        reply,
-        up,
-        down,
-    );
-    put_arrays(image, counted, session);
+    put_numbers(image, control, owed, command, reply, up, down);
+    put_arrays(image, layout::CLIENT, session);
 }
 
 fn put_marks(out: &mut [u8], at: usize, live: bool, supported: bool, control: Control) -> usize
@@ -74,7 +67,7 @@ fn put_marks(out: &mut [u8], at: usize, live: bool, supported: bool, control: Co
     put_control(out, next, control)
 }
 
-// The marks that calls can change.
+// The marks that calls can change. Four octets, and two behind them, are a store each, where six would be six stores.
 fn put_control(out: &mut [u8], at: usize, control: Control) -> usize
     ensures { λ r. ⌜ PutInRoom (now (out .entry)) at (marksIn control) r (now (out .exit)) ⌝ }
 {
@@ -83,13 +76,19 @@ fn put_control(out: &mut [u8], at: usize, control: Control) -> usize
     let server = control.server;
     let client_place = client.place;
     let server_place = server.place;
+    let up = control.up;
+    let down = control.down;
+    let client_telnet = up.telnet;
+    let server_telnet = down.telnet;
     let marks = [
         bit(switches.epsv),
         bit(switches.eprt),
         place_number(client_place),
         place_number(server_place),
     ];
-    put(out, at, &marks)
+    let states = [telnet_number(client_telnet), telnet_number(server_telnet)];
+    let next = put(out, at, &marks);
+    put(out, next, &states)
 }
 
 fn bit(set: bool) -> u8
@@ -112,29 +111,50 @@ fn place_number(place: Place) -> u8
     }
 }
 
-// The opening code, the replies owed and the octets held of the client's and the server's line, then what is counted.
+fn telnet_number(telnet: Telnet) -> u8
+    ensures { λ r. ⌜ r ≡ telnetNumber telnet ⌝ }
+{
+    match telnet {
+        Telnet::Clear => 0,
+        Telnet::Iac => 1,
+        Telnet::Will => 2,
+        Telnet::Wont => 3,
+        Telnet::Do => 4,
+        Telnet::Dont => 5,
+        Telnet::Within => 6,
+        Telnet::WithinIac => 7,
+    }
+}
+
+// The opening code, the replies owed and the octets held of the client's and the server's line, then what is counted,
+// and the octets removed, each at its own place, so that the compiler knows that there is room. The control's own
+// counts are given in 32 bits.
 fn put_numbers(
-    out: &mut [u8],
-    at: usize,
-    opening: u32,
+    image: &mut [u8],
+    control: Control,
     owed: u32,
     command: u32,
     reply: u32,
     up: Counts,
     down: Counts,
-) -> usize
-    ensures { λ r.
-        let text = numbersBy opening owed command reply up down in
-        ⌜ PutInRoom (now (out .entry)) at text r (now (out .exit)) ⌝ }
+)
+    requires { ⌜ imageSize ≤ length (now image) ⌝ }
+    ensures { λ _.
+        let text = numbersBy control owed command reply up down in
+        ⌜ now (image .exit) ≡ putAt (now (image .entry)) openingAt text ⌝ }
 {
-    let mut next = put_number(out, at, opening);
-    next = put_number(out, next, owed);
-    next = put_number(out, next, command);
-    next = put_number(out, next, reply);
-    next = put_number(out, next, up.taken);
-    next = put_number(out, next, up.written);
-    next = put_number(out, next, down.taken);
-    put_number(out, next, down.written)
+    let said = control.up;
+    let answered = control.down;
+    put_number(image, layout::OPENING, control.opening);
+    put_number(image, layout::COUNT_OWED, owed);
+    put_number(image, layout::CLIENT_HELD, command);
+    put_number(image, layout::SERVER_HELD, reply);
+    put_number(image, layout::UP_TAKEN, up.taken);
+    put_number(image, layout::UP_WRITTEN, up.written);
+    put_number(image, layout::DOWN_TAKEN, down.taken);
+    put_number(image, layout::DOWN_WRITTEN, down.written);
+    put_number(image, layout::UP_REMOVED, said.removed);
+    put_number(image, layout::DOWN_REMOVED, answered.removed);
 }
 
 // A count in 32 bits. One that is larger is refused as a record before and after.
@@ -195,17 +215,8 @@ fn put_back(image: &mut [u8], control: Control, up: Counts, down: Counts)
     let owed = uncapped(control.owed);
     let command = uncapped(said.held);
     let reply = uncapped(answered.held);
-    let marked = put_control(image, layout::EPSV, control);
-    put_numbers(
-        image,
-        marked,
-        control.opening,
-        owed,
-        command,
-        reply,
-        up,
-        down,
-    );
+    put_control(image, layout::EPSV, control);
+    put_numbers(image, control, owed, command, reply, up, down);
 }
 
 // The record of an image. Octets that are no image are a record that number 4 refuses.
@@ -228,7 +239,10 @@ fn is_image(image: &[u8]) -> bool
     if !at_most(&image[layout::LIVE..layout::CLIENT_PLACE], 1) {
         return false;
     }
-    at_most(&image[layout::CLIENT_PLACE..layout::OPENING], 3)
+    if !at_most(&image[layout::CLIENT_PLACE..layout::CLIENT_TELNET], 3) {
+        return false;
+    }
+    at_most(&image[layout::CLIENT_TELNET..layout::OPENING], 7)
 }
 
 fn dead() -> Session
@@ -322,12 +336,22 @@ fn control_in(image: &[u8]) -> Control
         place: place_of(image[layout::SERVER_PLACE]),
         held: number_at(image, layout::SERVER_HELD) as usize,
     };
+    let up = Layer {
+        telnet: telnet_of(image[layout::CLIENT_TELNET]),
+        removed: number_at(image, layout::UP_REMOVED),
+    };
+    let down = Layer {
+        telnet: telnet_of(image[layout::SERVER_TELNET]),
+        removed: number_at(image, layout::DOWN_REMOVED),
+    };
     Control {
         switches,
         client,
         server,
         owed: number_at(image, layout::COUNT_OWED) as usize,
         opening: number_at(image, layout::OPENING),
+        up,
+        down,
     }
 }
 
@@ -339,6 +363,21 @@ fn place_of(n: u8) -> Place
         1 => Place::Flowing,
         2 => Place::Passing,
         _ => Place::Ended,
+    }
+}
+
+fn telnet_of(n: u8) -> Telnet
+    ensures { λ r. ⌜ r ≡ telnetOf n ⌝ }
+{
+    match n {
+        0 => Telnet::Clear,
+        1 => Telnet::Iac,
+        2 => Telnet::Will,
+        3 => Telnet::Wont,
+        4 => Telnet::Do,
+        5 => Telnet::Dont,
+        6 => Telnet::Within,
+        _ => Telnet::WithinIac,
     }
 }
 

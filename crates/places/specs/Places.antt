@@ -36,6 +36,13 @@ isEnded Place.Flowing = false
 isEnded Place.Passing = false
 isEnded Place.Ended = true
 
+-- its octets are read as lines, with the Telnet layer below them
+abbrev pub isInLines : Place → Bool
+isInLines Place.Holding = true
+isInLines Place.Flowing = true
+isInLines Place.Passing = false
+isInLines Place.Ended = false
+
 -- "a server line is flowing, or the server direction has ended"
 unfoldable pub isFlowingOrEnded : Place → Bool
 isFlowingOrEnded Place.Holding = false

@@ -5,7 +5,8 @@ ghost use Prim.Native.Nat.{_+_, _<_};
 ghost use lib.Dec.{ltb};
 ghost use lib.ListN.{take};
 ghost use Rattle.rules.specs.Lines.{judged};
-ghost use Rattle.places.specs.Places.{at, isHolding, isFlowing, isPassing, isEnded, directionFromNow};
+ghost use Rattle.places.specs.Places.{at, isHolding, isFlowing, isPassing, isInLines, isEnded};
+ghost use Rattle.places.specs.Places.{directionFromNow};
 use rules::HELD;
 
 pub const LF: u8 = 10;
@@ -79,6 +80,16 @@ pub fn is_passing(direction: Direction) -> bool
         Place::Flowing => false,
         Place::Ended => false,
     }
+}
+
+// Its octets are read as lines, with the Telnet layer below them: they do not pass at once, and it has not ended.
+pub fn in_lines(direction: Direction) -> bool
+    ensures { λ r. ⌜ r ≡ isInLines (direction .place) ⌝ }
+{
+    if is_passing(direction) {
+        return false;
+    }
+    !has_ended(direction)
 }
 
 // It has ended.

@@ -20,9 +20,18 @@ fresh-promised su r e done =
 
 pub call-promised : (r : Session) (c : Call) (t : Called) (s k : List ℕ) → t ≡ outcomeOf r c .called
     → s ≡ bufferAfter client (outcomeOf r c) (lentServer c) → k ≡ bufferAfter server (outcomeOf r c) (lentClient c)
-    → Promise r c (returned t s k)
+    → Promise r c (returned r c t s k)
 call-promised r c t s k e p q =
-    rw e (record { answer = refl; taken = refl; toServer = refl; toClient = refl; session = refl; serverBuffer = p; clientBuffer = q })
+    rw e (record {
+      answer = refl;
+      taken = refl;
+      toServer = refl;
+      toClient = refl;
+      session = refl;
+      serverBuffer = p;
+      clientBuffer = q;
+      pieces = refl;
+    })
 
 pub offset-promised : (r : Session) (d : ℕ) → d < 2 → offset r d ≡ DirectionOffset.Is (gateway .offset r (sideOf d))
 unfolding offset

@@ -33,7 +33,7 @@ pub fn promised_arrival(
 ) -> Called
     ensures promise { λ r.
         let c = arrival direction (now (octets .entry)) (now («to_server» .entry)) (now («to_client» .entry)) in
-        ⌜ gateway .Promise session c (returned r (now («to_server» .exit)) (now («to_client» .exit))) ⌝ }
+        ⌜ gateway .Promise session c (returned session c r (now («to_server» .exit)) (now («to_client» .exit))) ⌝ }
     ensures progress { λ r.
         let serverRoom = length (now («to_server» .entry)) in
         let clientRoom = length (now («to_client» .entry)) in
@@ -51,7 +51,7 @@ pub fn promised_end(
 ) -> Called
     ensures { λ r.
         let c = ending direction (now («to_server» .entry)) (now («to_client» .entry)) in
-        ⌜ gateway .Promise session c (returned r (now («to_server» .exit)) (now («to_client» .exit))) ⌝ }
+        ⌜ gateway .Promise session c (returned session c r (now («to_server» .exit)) (now («to_client» .exit))) ⌝ }
 {
     session::end(session, direction, to_server, to_client)
 }

@@ -6,7 +6,7 @@ use Rattle.rules.specs.Setup.{ipv6Width, ipv4Width}
 
 -- ---- how wide a field is
 
--- a mark: yes or no, or a place
+-- a mark: yes or no, a place, or a Telnet state
 abbrev pub markWidth : ℕ
 markWidth = 1
 
@@ -36,10 +36,16 @@ clientPlaceAt = eprtAt + markWidth
 abbrev pub serverPlaceAt : ℕ
 serverPlaceAt = clientPlaceAt + markWidth
 
+abbrev pub clientTelnetAt : ℕ
+clientTelnetAt = serverPlaceAt + markWidth
+
+abbrev pub serverTelnetAt : ℕ
+serverTelnetAt = clientTelnetAt + markWidth
+
 -- ---- the numbers
 
 abbrev pub openingAt : ℕ
-openingAt = serverPlaceAt + markWidth
+openingAt = serverTelnetAt + markWidth
 
 abbrev pub owedAt : ℕ
 owedAt = openingAt + numberWidth
@@ -62,10 +68,16 @@ downTakenAt = upWrittenAt + numberWidth
 abbrev pub downWrittenAt : ℕ
 downWrittenAt = downTakenAt + numberWidth
 
+abbrev pub upRemovedAt : ℕ
+upRemovedAt = downWrittenAt + numberWidth
+
+abbrev pub downRemovedAt : ℕ
+downRemovedAt = upRemovedAt + numberWidth
+
 -- ---- the arrays
 
 abbrev pub clientAt : ℕ
-clientAt = downWrittenAt + numberWidth
+clientAt = downRemovedAt + numberWidth
 
 abbrev pub mappedAt : ℕ
 mappedAt = clientAt + ipv6Width
@@ -84,12 +96,15 @@ imageSize = replyAt + mostHeld
 
 -- ---- parts of several fields
 
--- the marks that say yes or no, those that are places, and all of them
+-- the marks that say yes or no, those that are places, those that are Telnet states, and all of them
 abbrev pub bitsSize : ℕ
 bitsSize = clientPlaceAt - liveAt
 
 abbrev pub placesSize : ℕ
-placesSize = openingAt - clientPlaceAt
+placesSize = clientTelnetAt - clientPlaceAt
+
+abbrev pub telnetsSize : ℕ
+telnetsSize = openingAt - clientTelnetAt
 
 abbrev pub marksSize : ℕ
 marksSize = openingAt - liveAt

@@ -23,8 +23,12 @@ pub const CLIENT_PLACE: usize = EPRT + MARK;
 
 pub const SERVER_PLACE: usize = CLIENT_PLACE + MARK;
 
+pub const CLIENT_TELNET: usize = SERVER_PLACE + MARK;
+
+pub const SERVER_TELNET: usize = CLIENT_TELNET + MARK;
+
 // The numbers.
-pub const OPENING: usize = SERVER_PLACE + MARK;
+pub const OPENING: usize = SERVER_TELNET + MARK;
 
 pub const COUNT_OWED: usize = OPENING + NUMBER;
 
@@ -40,8 +44,12 @@ pub const DOWN_TAKEN: usize = UP_WRITTEN + NUMBER;
 
 pub const DOWN_WRITTEN: usize = DOWN_TAKEN + NUMBER;
 
+pub const UP_REMOVED: usize = DOWN_WRITTEN + NUMBER;
+
+pub const DOWN_REMOVED: usize = UP_REMOVED + NUMBER;
+
 // The arrays.
-pub const CLIENT: usize = DOWN_WRITTEN + NUMBER;
+pub const CLIENT: usize = DOWN_REMOVED + NUMBER;
 
 pub const MAPPED: usize = CLIENT + IPV6;
 

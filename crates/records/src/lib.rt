@@ -4,7 +4,8 @@ ghost use Rattle.rules.specs.Octets.{every};
 ghost use Rattle.rules.specs.Answers.{sideOf, isQueueFull};
 ghost use Rattle.places.specs.Places.{isPassing};
 ghost use Rattle.queue.specs.Kinds.{isListed};
-ghost use Rattle.records.specs.Controls.{withClient, withServer, withEnded};
+ghost use Rattle.records.specs.Controls.{withClient, withServer, layerIn, withLayers, withLayer};
+ghost use Rattle.records.specs.Controls.{telnetRead, withEnded};
 ghost use Rattle.records.specs.Sound.{soundDirection, soundOf, directionOf, refusalOn, refusalOf, refusalBy};
 ghost use Rattle.records.specs.Sound.{blocked as isBlocked, holdable as areHoldable, sideIf};
 use places::Direction;
@@ -12,14 +13,18 @@ use places::Place;
 use places::copied;
 use places::first_octets;
 use places::has_ended;
+use places::in_lines;
 use places::is_passing;
 use rules::Answer;
 use rules::Fixed;
 use rules::HELD;
 use rules::Kinds;
+use rules::Layer;
 use rules::Line;
 use rules::OWED;
 use rules::Switches;
+use rules::Telnet;
+use telnet::cleared;
 
 pub mod layout;
 
@@ -31,6 +36,9 @@ pub struct Control {
     pub owed: usize,
     // The code that opened the server's reply of several lines, as a number; 0 where none is open.
     pub opening: u32,
+    // The Telnet layer of the client's octets, and of the server's.
+    pub up: Layer,
+    pub down: Layer,
 }
 
 // Octets taken from a direction and written for it, in 32 bits that wrap.
@@ -108,11 +116,11 @@ fn sound(live: bool, control: Control, kinds: &[u8]) -> bool
     sound_direction(server)
 }
 
-// The direction of a number, the server's for every number but 0.
-fn direction_of(control: Control, number: u8) -> Direction
-    ensures { λ r. ⌜ r ≡ directionOf (sideOf number) control ⌝ }
+// The direction of a side.
+pub fn direction_of(control: Control, from_client: bool) -> Direction
+    ensures { λ r. ⌜ r ≡ directionOf (sideIf «from_client») control ⌝ }
 {
-    if number == 0 {
+    if from_client {
         return control.client;
     }
     control.server
@@ -130,7 +138,7 @@ pub fn refusal_on(live: bool, control: Control, kinds: &[u8], direction: u8) -> 
     if !sound(live, control, kinds) {
         return Refusal::By(Answer::BadRecord);
     }
-    if has_ended(direction_of(control, direction)) {
+    if has_ended(direction_of(control, direction == 0)) {
         return Refusal::By(Answer::DirectionEnded);
     }
     Refusal::Nothing
@@ -168,6 +176,8 @@ pub fn with_client(control: Control, switches: Switches, client: Direction, owed
     ensures { λ r. ⌜ r ≡ withClient control switches client owed ⌝ }
 {
     let other = control.server;
+    let up = control.up;
+    let down = control.down;
     Control {
         switches: Switches {
             epsv: switches.epsv,
@@ -177,6 +187,8 @@ pub fn with_client(control: Control, switches: Switches, client: Direction, owed
         server: copied(other),
         owed,
         opening: control.opening,
+        up,
+        down,
     }
 }
 
@@ -186,6 +198,8 @@ pub fn with_server(control: Control, server: Direction, owed: usize, opening: u3
 {
     let switches = control.switches;
     let other = control.client;
+    let up = control.up;
+    let down = control.down;
     Control {
         switches: Switches {
             epsv: switches.epsv,
@@ -195,10 +209,62 @@ pub fn with_server(control: Control, server: Direction, owed: usize, opening: u3
         server: copied(server),
         owed,
         opening,
+        up,
+        down,
     }
 }
 
-// The control with what the end of a side changes.
+// The Telnet layer of a side.
+pub fn layer_of(control: Control, from_client: bool) -> Layer
+    ensures { λ r. ⌜ r ≡ layerIn (sideIf «from_client») control ⌝ }
+{
+    if from_client {
+        return control.up;
+    }
+    control.down
+}
+
+// The Telnet state of a side, as far as it is read: clear where its octets are not read as lines.
+pub fn unfinished_of(control: Control, from_client: bool) -> Telnet
+    ensures { λ r. ⌜ r ≡ telnetRead (sideIf «from_client») control ⌝ }
+{
+    if !in_lines(direction_of(control, from_client)) {
+        return Telnet::Clear;
+    }
+    let layer = layer_of(control, from_client);
+    layer.telnet
+}
+
+// The control with these Telnet layers.
+fn with_layers(control: Control, up: Layer, down: Layer) -> Control
+    ensures { λ r. ⌜ r ≡ withLayers control up down ⌝ }
+{
+    let on = control.switches;
+    let said = control.client;
+    let answered = control.server;
+    let code = control.opening;
+    Control {
+        switches: on,
+        client: said,
+        server: answered,
+        owed: control.owed,
+        opening: code,
+        up,
+        down,
+    }
+}
+
+// The control with another Telnet layer of a side.
+pub fn with_layer(control: Control, from_client: bool, layer: Layer) -> Control
+    ensures { λ r. ⌜ r ≡ withLayer (sideIf «from_client») control layer ⌝ }
+{
+    if from_client {
+        return with_layers(control, layer, control.down);
+    }
+    with_layers(control, control.up, layer)
+}
+
+// The control with what the end of a side changes: of its line and of a Telnet command nothing is left.
 pub fn with_ended(control: Control, from_client: bool) -> Control
     ensures { λ r. ⌜ r ≡ withEnded (sideIf «from_client») control ⌝ }
 {
@@ -207,9 +273,11 @@ pub fn with_ended(control: Control, from_client: bool) -> Control
         held: 0,
     };
     if from_client {
-        return with_client(control, control.switches, ended, control.owed);
+        let left = with_layers(control, cleared(control.up), control.down);
+        return with_client(left, control.switches, ended, control.owed);
     }
-    with_server(control, ended, control.owed, control.opening)
+    let left = with_layers(control, control.up, cleared(control.down));
+    with_server(left, ended, control.owed, control.opening)
 }
 
 // The next octet is the client's, AUTH is not yet recognised, and 16 replies are owed.

@@ -1,6 +1,7 @@
 -- What follows from demand 3 for any gateway that keeps it.
-use mathlib.Core.Path.{sym, _∙_}
-use Rattle.rules.specs.Demand3.{Gateway, Demand3, SameHistory, SameClient}
+use mathlib.Core.Path.{_≡_, sym, ap, _∙_}
+use Rattle.rules.specs.Items.{allToServer}
+use Rattle.rules.specs.Demand3.{Gateway, Demand3, piecesOf, SameHistory, SameClient}
 
 pub any-same-client : (g : Gateway) → Demand3 g → SameClient g
 any-same-client g demand su l m a b text ended =
@@ -11,4 +12,5 @@ pub any-same-history : (g : Gateway) → Demand3 g → SameHistory g
 any-same-history g demand su l m a b same =
     let p = demand su (a .first) (a .last) l (a .fresh) (a .calls) in
     let q = demand su (b .first) (b .last) m (b .fresh) (b .calls) in
-    (p .toServer ∙ rw same (sym (q .toServer)), p .toClient ∙ rw same (sym (q .toClient)))
+    let pieces : piecesOf g l ≡ piecesOf g m = p .pieces ∙ rw same (sym (q .pieces)) in
+    (sym (p .joinedToServer) ∙ ap allToServer pieces ∙ q .joinedToServer, p .toClient ∙ rw same (sym (q .toClient)))

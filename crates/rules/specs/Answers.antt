@@ -78,13 +78,18 @@ longestAnswer = 48
 abbrev pub mostAnswers : ℕ
 mostAnswers = mostOwed * longestAnswer
 
--- "One octet writes at most 512 octets to the server and at most 1,280 to the client": a line, and for the client sixteen answers too
+-- "One octet writes at most .. octets to the server": 512 octets that are all doubled; "Recompute the bounds 512 and 1,280"
 unfoldable pub mostToServer : ℕ
-mostToServer = judged
+mostToServer = 2 * judged
 
--- "at most 1,280 to the client"
+-- "and at most .. to the client": 511 that are doubled, the LF, and sixteen answers. It is the least number for all records that
+-- number 4 lets through
 unfoldable pub mostToClient : ℕ
-mostToClient = judged + mostAnswers
+mostToClient = 2 * mostHeld + 1 + mostAnswers
+
+-- what is reached from a fresh session: there the 511 end an open reply, so that they begin with a code and a space
+unfoldable pub mostReached : ℕ
+mostReached = mostToClient - 4
 
 -- "counts octets taken and written in 32 bits that wrap"
 unfoldable pub wrapped : ℕ → ℕ
@@ -96,5 +101,5 @@ offsetOf written taken = wrapped (wrapped written + (2 ^ 32 - wrapped taken))
 
 -- this page's definitions, for a proof that computes with them
 unfoldable pub answers-opened : Unit {0}
-unfolding isQueueFull fits soundHeld soundRecord refusal stop mostToServer mostToClient wrapped offsetOf
+unfolding isQueueFull fits soundHeld soundRecord refusal stop mostToServer mostToClient mostReached wrapped offsetOf
 answers-opened = tt

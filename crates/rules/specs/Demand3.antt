@@ -9,7 +9,8 @@ use Rattle.rules.specs.Setup.{setupAnswer}
 use Rattle.rules.specs.declared.Setup.{Setup}
 use Rattle.rules.specs.History.{Item, octet, end, textOf, hasEnded, takenFrom}
 use Rattle.rules.specs.ToServer.{toServer as readServer}
-use Rattle.rules.specs.ToClient.{toClient as readClient}
+use Rattle.rules.specs.Items.{Piece, allToServer, allToClient, eachItem, toClient as readClient, removedFrom}
+use Rattle.rules.specs.Pieces.{rolesOf, spoken}
 use Rattle.rules.specs.declared.Answer.{Answer}
 use Rattle.rules.specs.declared.Answer.the-variants.{
   Done,
@@ -26,7 +27,8 @@ pub data Call : Type 0 where
   arrival : ℕ → List ℕ → List ℕ → List ℕ → Call
   ending : ℕ → List ℕ → List ℕ → Call
 
--- what a call returned: the answer, the octets taken, how many it wrote into each buffer, the record, and the buffers then
+-- what a call returned: the answer, the octets taken, how many it wrote into each buffer, the record, and the buffers then. No function
+-- returns the pieces; a promise says them: what each octet taken wrote, or the end that answered 0
 pub record Return (Session : Type 0) : Type 0 where
   pub answer : Answer
   pub taken : ℕ
@@ -35,13 +37,16 @@ pub record Return (Session : Type 0) : Type 0 where
   pub session : Session
   pub serverBuffer : List ℕ
   pub clientBuffer : List ℕ
+  pub pieces : List Piece
 
--- a gateway: its record, "the record of a setup that answered 0", what arrival and end promise, and a side's offset
+-- a gateway: its record, "the record of a setup that answered 0", what arrival and end promise, a side's offset, and how many octets
+-- of subnegotiations were removed from it
 pub record Gateway : Type 1 where
   pub Session : Type 0
   pub Fresh : Setup → Session → Type 0
   pub Promise : Session → Call → Return Session → Type 0
   pub offset : Session → Side → ℕ
+  pub removed : Session → Side → ℕ
 
 -- what keeps the claim below from being empty: a setup that answers 0 has a record, and every call returns
 pub record Answering (g : Gateway) : Type 0 where
@@ -109,13 +114,28 @@ module _ (g : Gateway) where
   goneToClient [] = []
   goneToClient (m ∷ l) = take (m .1 .toClient) (m .1 .clientBuffer) ++ goneToClient l
 
-  -- what has gone to each side is the reading of the setup and the history; "its length minus the octets taken from the other side, modulo
-  -- 2^32, is the offset"
+  -- what each item of the history wrote
+  abbrev pub piecesOf : List Made → List Piece
+  piecesOf [] = []
+  piecesOf (m ∷ l) = m .1 .pieces ++ piecesOf l
+
+  -- "the output without these answers and without passed Telnet commands, each told apart by the octet or end that wrote it"
+  abbrev pub spokenToServer : Setup → List Made → List ℕ
+  spokenToServer su l = spoken (rolesOf su (historyOf l)) (piecesOf l)
+
+  -- the pieces are what has gone to each side, and each is the one that the history gives; what was spoken to the server is the reading of
+  -- the client's text, what has gone to the client that of the history; "its length minus the octets taken from the other side, modulo
+  -- 2^32, is the offset", over all that has gone; and the octets of subnegotiations removed are counted
   pub record Kept (su : Setup) (l : List Made) (z : g .Session) : Type 0 where
-    pub toServer : goneToServer l ≡ readServer su (textOf client (historyOf l)) (hasEnded client (historyOf l))
+    pub joinedToServer : allToServer (piecesOf l) ≡ goneToServer l
+    pub joinedToClient : allToClient (piecesOf l) ≡ goneToClient l
+    pub pieces : piecesOf l ≡ eachItem su (historyOf l)
+    pub toServer : spokenToServer su l ≡ readServer su (textOf client (historyOf l)) (hasEnded client (historyOf l))
     pub toClient : goneToClient l ≡ readClient su (historyOf l)
     pub clientOffset : g .offset z client ≡ offsetOf (length (goneToServer l)) (takenFrom client (historyOf l))
     pub serverOffset : g .offset z server ≡ offsetOf (length (goneToClient l)) (takenFrom server (historyOf l))
+    pub clientRemoved : g .removed z client ≡ removedFrom su client (historyOf l)
+    pub serverRemoved : g .removed z server ≡ removedFrom su server (historyOf l)
 
   -- demand 3
   abbrev pub Demand3 : Type 0
@@ -136,21 +156,21 @@ module _ (g : Gateway) where
       (su : Setup) (l m : List Made) → FromFresh su l → FromFresh su m → historyOf l ≡ historyOf m
       → (goneToServer l ≡ goneToServer m) × (goneToClient l ≡ goneToClient m)
 
-  -- whatever the server sent: the same client text and end have sent the server the same octets
+  -- whatever the server sent: the same client text and end have spoken the same to the server
   abbrev pub SameClient : Type 0
   SameClient =
       (su : Setup) (l m : List Made) → FromFresh su l → FromFresh su m
       → textOf client (historyOf l) ≡ textOf client (historyOf m)
       → hasEnded client (historyOf l) ≡ hasEnded client (historyOf m)
-      → goneToServer l ≡ goneToServer m
+      → spokenToServer su l ≡ spokenToServer su m
 
-  -- until the client's end, more client octets only add to what has gone to the server
+  -- until the client's end, more client octets only add to what was spoken to the server
   abbrev pub OnlyAdds : Type 0
   OnlyAdds =
       (su : Setup) (l m : List Made) (more : List ℕ) → FromFresh su l → FromFresh su m
       → hasEnded client (historyOf l) ≡ false
       → textOf client (historyOf m) ≡ textOf client (historyOf l) ++ more
-      → (added : List ℕ) × (goneToServer m ≡ goneToServer l ++ added)
+      → (added : List ℕ) × (spokenToServer su m ≡ spokenToServer su l ++ added)
 
   -- ---- refused calls
 
@@ -162,6 +182,7 @@ module _ (g : Gateway) where
     pub session : t .session ≡ r
     pub serverBuffer : t .serverBuffer ≡ lentServer c
     pub clientBuffer : t .clientBuffer ≡ lentClient c
+    pub pieces : t .pieces ≡ []
 
   -- every refused call does so
   abbrev pub RefusalsLeaveAll : Type 0
@@ -174,6 +195,7 @@ module _ (g : Gateway) where
     pub history : historyOf (l ++ (c, t) ∷ m) ≡ historyOf (l ++ m)
     pub toServer : goneToServer (l ++ (c, t) ∷ m) ≡ goneToServer (l ++ m)
     pub toClient : goneToClient (l ++ (c, t) ∷ m) ≡ goneToClient (l ++ m)
+    pub pieces : piecesOf (l ++ (c, t) ∷ m) ≡ piecesOf (l ++ m)
 
   -- it is so wherever a refused call stands in a list
   abbrev pub RefusedChangesNothing : Type 0

@@ -42,6 +42,10 @@ dot = 46
 abbrev pub colon : ℕ
 colon = 58
 
+-- 255, Telnet's IAC: "Interpret as Command"
+abbrev pub iac : ℕ
+iac = 255
+
 -- one or the other by a test. The library's `cond` always unfolds; this one can stay shut, so that a law about it can be cited
 unfoldable pub choose : {A : Type 0} → Bool → A → A → A
 choose true x y = x
@@ -63,6 +67,10 @@ is d x = eqb x d
 -- an octet is not d
 abbrev pub isNot : ℕ → ℕ → Bool
 isNot d x = not (eqb x d)
+
+-- an octet is neither d nor e
+abbrev pub isNeither : ℕ → ℕ → ℕ → Bool
+isNeither d e x = isNot d x && isNot e x
 
 -- each octet passes a test
 unfoldable pub every : (ℕ → Bool) → List ℕ → Bool

@@ -1,18 +1,17 @@
--- "To the client: the history is read item by item."
+-- "To the client: the history is read item by item." What octets of lines, own answers and the AUTH step give; the next page
+-- reads the items.
 use mathlib.Core.Bool.{Bool, true, false, _&&_, _||_, not}
 use mathlib.Core.List.{List, [], _∷_, _++_}
 use Prim.Native.Nat.{ℕ}
 use lib.Dec.{eqb}
 use lib.ListN.{length, take}
 use Rattle.rules.specs.Octets.{lf, choose}
-use Rattle.rules.specs.Answers.{client, server}
-use Rattle.rules.specs.Setup.{setupSwitches}
-use Rattle.rules.specs.declared.Setup.{Setup}
 use Rattle.rules.specs.Lines.{judged, isWhole, startsAuth, passed, unchanged, content}
 use Rattle.rules.specs.Replies.{isAuth, isOpen, replyLine, openingAfter, owedAfter, headAnswers, withoutAnswers, authAtHead}
-use Rattle.rules.specs.Edition.{ClientLine, LineRules, document01}
-use Rattle.rules.specs.History.{Item, octet, end}
+use Rattle.rules.specs.Telnet.{unfinishedIn}
+use Rattle.rules.specs.Edition.{ClientLine, LineRules}
 use Rattle.rules.specs.ToServer.{finishedLine}
+use Rattle.rules.specs.declared.Telnet.{Telnet}
 use Rattle.rules.specs.declared.Kind.{Kind}
 use Rattle.rules.specs.declared.ReplyLine.{ReplyLine}
 use Rattle.rules.specs.declared.ReplyLine.the-variants.{Opens, Belongs, Preliminary, Final, StandsAlone}
@@ -100,7 +99,7 @@ serverLine rules owed opening l =
 
 -- "up to 511 without LF give nothing, a 512th not LF gives all, later ones themselves": l ends with the octet x
 unfoldable pub lineOctetGives : List ℕ → ℕ → List ℕ
-lineOctetGives l x = choose (isWhole l) [] (choose (eqb (length l) judged) (passed l) (x ∷ []))
+lineOctetGives l x = choose (isWhole l) [] (choose (eqb (length l) judged) (passed l) (passed (x ∷ [])))
 
 -- a server octet that is no LF joins its line
 unfoldable pub lineOctet : List Kind → ℕ → List ℕ → ℕ → ServerStep
@@ -139,33 +138,29 @@ passesFromNow (inLine l) = passing
 passesFromNow passing = passing
 passesFromNow ended = ended
 
+-- a side's octets are read as lines, with the Telnet layer below them
+abbrev pub isInLine : Place → Bool
+isInLine (inLine l) = true
+isInLine passing = false
+isInLine ended = false
+
+-- by request 2 of document 02, "Where held octets pass at an end or for AUTH, any other command still unfinished passes after
+-- them, also where none are held"
+abbrev pub letGo : Place → Telnet → List ℕ
+letGo p t = passed (held p) ++ unfinishedIn (isInLine p) t
+
 -- "When AUTH reaches the head, held server octets pass and all later ones pass at once"
-unfoldable pub authStep : ServerStep → ServerStep
-authStep t =
+unfoldable pub authStep : Telnet → ServerStep → ServerStep
+authStep telnet t =
     let s = t .state in
     choose (authAtHead (s .owed))
-    (serverStepTo (passesFromNow (s .place)) (s .owed) (s .opening) (t .gives ++ passed (held (s .place))))
+    (serverStepTo (passesFromNow (s .place)) (s .owed) (s .opening) (t .gives ++ letGo (s .place) telnet))
     t
 
--- after an octet that gave what `t` says and put `new` on the queue
-unfoldable pub afterOctet : ServerStep → List Kind → ServerStep
-afterOctet t new = let s = t .state in authStep (ownAnswers (s .place) (s .owed ++ new) (s .opening) (t .gives))
-
--- ---- the whole history
-
--- each item's own part, then the rest from the state after it
-unfoldable pub readToClient : (rules : LineRules) → ClientState (rules .LineState) → ServerState → List Item → List ℕ
-readToClient rules c s [] = []
-readToClient rules c s (octet client x ∷ is) =
-    let j = clientOctet rules (c .lineState) (c .place) x in
-    let t = afterOctet (record { state = s; gives = [] }) (j .owes) in
-    t .gives ++ readToClient rules (j .state) (t .state) is
-readToClient rules c s (octet server x ∷ is) =
-    let t = afterOctet (serverOctet rules (s .place) (s .owed) (s .opening) x) [] in
-    t .gives ++ readToClient rules c (t .state) is
-readToClient rules c s (end client ∷ is) = readToClient rules (record { lineState = c .lineState; place = ended }) s is
-readToClient rules c s (end server ∷ is) =
-    passed (held (s .place)) ++ readToClient rules c (record { place = ended; owed = s .owed; opening = s .opening }) is
+-- after an octet that gave what `t` says and put `new` on the queue; what has come of a server's command is `telnet`
+unfoldable pub afterOctet : Telnet → ServerStep → List Kind → ServerStep
+afterOctet telnet t new =
+    let s = t .state in authStep telnet (ownAnswers (s .place) (s .owed ++ new) (s .opening) (t .gives))
 
 -- "the kinds owed (at first plain, the greeting)"
 abbrev pub freshServer : ServerState
@@ -175,11 +170,7 @@ freshServer = record { place = inLine []; owed = Kind.Plain ∷ []; opening = 0 
 abbrev pub freshClient : {S : Type 0} → S → ClientState S
 freshClient st = record { lineState = st; place = inLine [] }
 
--- what has gone to the client after a setup, by the history
-unfoldable pub toClient : Setup → List Item → List ℕ
-toClient su is = readToClient (document01 su) (freshClient (setupSwitches (su .flags))) freshServer is
-
 -- this page's definitions, for a proof that computes with them
 unfoldable pub to-client-opened : Unit {0}
-unfolding finishes joins clientOctet finalLineGives wholeLineGives classedBy serverLine lineOctetGives lineOctet serverOctet held flowsOrEnded ownAnswers authStep afterOctet readToClient toClient
+unfolding finishes joins clientOctet finalLineGives wholeLineGives classedBy serverLine lineOctetGives lineOctet serverOctet held flowsOrEnded ownAnswers authStep afterOctet
 to-client-opened = tt

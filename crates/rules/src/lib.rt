@@ -128,6 +128,50 @@ pub enum ReplyLine {
     StandsAlone,
 }
 
+// What of a Telnet command has come from a direction and is not finished.
+pub enum Telnet {
+    // Nothing.
+    Clear,
+    // 255.
+    Iac,
+    // 255 and one of these four; the option is to come.
+    Will,
+    Wont,
+    Do,
+    Dont,
+    // A subnegotiation, up to now.
+    Within,
+    // The same, and 255 last.
+    WithinIac,
+}
+
+// A direction's Telnet state, and how many octets of subnegotiations were removed from it, in 32 bits that wrap.
+pub struct Layer {
+    pub telnet: Telnet,
+    pub removed: u32,
+}
+
+// What an octet does in the Telnet layer.
+pub enum Does {
+    // It makes this octet of a line.
+    Data(u8),
+    // It is dropped, or begins a command.
+    Nothing,
+    // DONT or WONT with this option goes back to its sender.
+    AnswersDont(u8),
+    AnswersWont(u8),
+    // 255 and this octet pass at once.
+    Passes(u8),
+    // So many octets of a subnegotiation are removed, it and the 255 before the one that begins it.
+    Removes(u32),
+}
+
+// An octet in the Telnet layer: the state after it, and what it does.
+pub struct TelnetStep {
+    pub telnet: Telnet,
+    pub does: Does,
+}
+
 // The port of a 227 line.
 pub enum PassiveReply {
     Port(u16),

@@ -6,8 +6,10 @@ use Prim.Native.Nat.{ℕ, _+_, _-_, _<_, _≤_}
 use native.Mathlib.Numerals.{add-one}
 use native.Mathlib.Omega.{arith}
 use lib.ListN.{length, getD, take, drop}
-use lib.Seq.{take-all, take-suc}
-use Rattle.rules.specs.Octets.{run, every}
+use lib.Seq.{take-all, take-suc, drop-drop}
+use Rattle.rules.specs.Octets.{lf, iac, choose, run, every, is, isNot}
+use Rattle.rules.specs.Lines.{isOrdinary}
+use Rattle.octets.proofs.Ranges.{and-both}
 use Rattle.octets.proofs.Runs.{run-over, every-snoc, part-rest, part-length}
 
 de-morgan : (a b : Bool) → (not a || b) ≡ not (a && not b)
@@ -43,3 +45,42 @@ module _ (p : ℕ → Bool) (s : List ℕ) where
 pub block-free : (stops passes : Bool) → stops ≡ not passes → stops ≡ false → passes ≡ true
 block-free stops true q e = refl
 block-free stops false q e = sym e ∙ q
+
+both-not : (a b : Bool) → (not a && not b) ≡ not (a || b)
+both-not true b = refl
+both-not false b = refl
+
+-- an octet that is ordinary
+pub ordinary : (x : ℕ) → isOrdinary x ≡ not (is lf x || is iac x)
+ordinary x = both-not (is lf x) (is iac x)
+
+-- two marks kept side by side are both kept as one
+pub side-by-side : (a b x y : Bool) → ((a || x) || (b || y)) ≡ ((a || b) || (x || y))
+side-by-side true b x y = refl
+side-by-side false true true y = refl
+side-by-side false true false y = refl
+side-by-side false false x y = refl
+
+-- an ordinary octet is no 255: a search for 255 goes over a run of them
+through-by : (p q : ℕ → Bool) (x : ℕ) (s : List ℕ) (b : Bool) → p x ≡ b → (p x ≡ true → q x ≡ true)
+    → run q s ≡ run p s + run q (drop (run p s) s)
+    → run q (x ∷ s) ≡ run p (x ∷ s) + run q (drop (run p (x ∷ s)) (x ∷ s))
+unfolding run choose
+through-by p q x s true e h k = rw (e, h e) (omega (arith, k))
+through-by p q x s false e h k = rw e (omega arith)
+
+through : (p q : ℕ → Bool) → ((x : ℕ) → p x ≡ true → q x ≡ true) → (s : List ℕ)
+    → run q s ≡ run p s + run q (drop (run p s) s)
+unfolding run
+through p q h [] = refl
+through p q h (x ∷ s) = through-by p q x s (p x) refl (h x) (through p q h s)
+
+-- A loop that looks for the first 255 at r, and stands at i: it goes over the ordinary octets up to e.
+pub ordinary-over : (s : List ℕ) (i e r : ℕ) → e ≡ i + run isOrdinary (drop i s) → r ≡ i + run (isNot iac) (drop i s)
+    → r ≡ e + run (isNot iac) (drop e s)
+ordinary-over s i e r at q =
+    let over = through isOrdinary (isNot iac) (λ x h. and-both (isNot lf x) (isNot iac x) h .1) (drop i s) in
+    let behind : drop (run isOrdinary (drop i s)) (drop i s) ≡ drop e s =
+    drop-drop (run isOrdinary (drop i s)) i s ∙ ap (λ (n : ℕ). drop n s) (sym at) in
+    let rest = ap (run (isNot iac)) behind in
+    omega (arith, over, rest, at, q)

@@ -3,27 +3,29 @@ use mathlib.Core.Path.{_≡_, refl, sym, ap, _∙_}
 use mathlib.Core.Bool.{Bool, true, false, and-true}
 use mathlib.Core.List.{List, _++_}
 use mathlib.Core.Option.{Option, none}
-use Prim.Native.Nat.{ℕ, zero, suc, _≤_, _<_}
-use lib.Dec.{eqb, eqb·suc-zero, leb, leb·zero}
-use lib.ListN.{length, drop}
+use Prim.Native.Nat.{ℕ, zero, suc, _+_, _*_, _≤_, _<_}
+use lib.Dec.{leb, leb·zero}
+use lib.ListN.{length, drop, length-append, length-take}
 use borrow.Author.Tests.{le-leb, lt-leb}
 use native.Mathlib.Omega.{arith}
 use Rattle.rules.specs.Answers.{Side, client, server, sideOf, fits}
-use Rattle.rules.specs.Lines.{passed}
+use Rattle.rules.specs.Lines.{passed, mostHeld}
 use Rattle.rules.specs.declared.Answer.{Answer}
 use Rattle.session.specs.declared.Called.{Called}
 use Rattle.records.specs.declared.Counts.{Counts}
 use Rattle.records.specs.declared.Session.{Session}
 use Rattle.steps.specs.declared.Written.{Written}
 use Rattle.records.specs.declared.Refusal.{Refusal}
-use Rattle.output.specs.Buffer.{putAt, positionAfter}
-use Rattle.steps.specs.Steps.{State, heldOf}
+use Rattle.output.specs.Buffer.{putAt}
+use Rattle.steps.specs.Steps.{State, heldOf, letGoOf}
 use Rattle.steps.specs.Takes.{Took, takes, Core, coreFrom, coreTook}
 use Rattle.session.specs.Calls.{Outcome, counted, takenFor, stateOf, sessionAfter, refused, unlessRefused, outcome, arrived, goesTo, writtenFrom, endStep, endOutcome, heldEnd, bufferAfter, endCalled}
 use Rattle.records.specs.Sound.{refusalOf, refusalBy, sideIf}
+use Rattle.records.specs.Controls.{unfinishedOf}
 use Rattle.records.proofs.Sides.{not-zero}
 use Rattle.records.proofs.Refusals.{by-answer}
-use Rattle.output.proofs.Placing.{after-fits}
+use Rattle.octets.proofs.Passed.{passed-most}
+use Rattle.output.proofs.Placing.{Wrote, after-fits, joined}
 use Rattle.output.proofs.Front.{front-put}
 use Rattle.steps.proofs.Fits.{takes-fit}
 
@@ -70,11 +72,6 @@ turned-away s o w a out other p q e = rw (by-answer o a (sym p ∙ q)) (promised
 
 -- ---- an arrival
 
--- the side that the code's test names
-pub side-tested : (d : ℕ) → sideIf (eqb d 0) ≡ sideOf d
-side-tested zero = refl
-side-tested (suc d) = rw (eqb·suc-zero d)
-
 -- side is the direction's, which does not refuse
 module _ (s : Session) (d : ℕ) (octets out other : List ℕ) (side : Side) (same : side ≡ sideOf d) (free : refusalOf s d ≡ none) where
   abbrev pub taking : Took
@@ -104,10 +101,15 @@ module _ (s : Session) (d : ℕ) (octets out other : List ℕ) (side : Side) (sa
 
 -- ---- an end
 
+-- the octets that an array of a line holds give at most twice as many
+pub held-gives : (d : Side) (s : State) → length (s .command) ≡ mostHeld → length (s .reply) ≡ mostHeld → length (passed (heldOf d s)) ≤ 2 * mostHeld
+held-gives client s c r = omega (arith, passed-most (heldOf client s), length-take (s .control .client .held) (s .command))
+held-gives server s c r = omega (arith, passed-most (heldOf server s), length-take (s .control .server .held) (s .reply))
+
 -- what an end leaves of the side d: what it returns, and the one buffer that the held octets go to
 module _ (s : Session) (d : Side) (out : List ℕ) where
   abbrev text : List ℕ
-  text = passed (heldOf d (stateOf s))
+  text = letGoOf d (stateOf s)
 
   abbrev pub Left : Called → List ℕ → Type 0
   Left r out′ = (r ≡ heldEnd s d (length out) .called) × (out′ ≡ bufferAfter d (heldEnd s d (length out)) out)
@@ -118,33 +120,47 @@ module _ (s : Session) (d : Side) (out : List ℕ) where
   same-buffer client = refl
   same-buffer server = refl
 
-  pub no-room : {n : ℕ} {r : Called} → n ≡ length text → length out < n → r ≡ refused Answer.NoRoom s .called → Left r out
-  unfolding heldEnd endOutcome
-  no-room p less e = rw (lt-leb (length text) (length out) (omega arith)) (e, same-buffer d)
-
-  -- where they have room, and n octets were put
   sizes : (e : Side) (l : List ℕ) → writtenFrom e (length l) ≡ record { server = length (goesTo server e l); client = length (goesTo client e l) }
   sizes client l = refl
   sizes server l = refl
 
-  buffer-then : (e : Side) → passed (heldOf e (stateOf s)) ++ drop (length (passed (heldOf e (stateOf s)))) out
+  buffer-then : (e : Side) → letGoOf e (stateOf s) ++ drop (length (letGoOf e (stateOf s))) out
       ≡ bufferAfter e (endOutcome s e (endStep e (stateOf s)) true) out
   unfolding endStep endOutcome outcome
   buffer-then client = refl
   buffer-then server = refl
 
-  pub passed-on : {m n : ℕ} {out′ : List ℕ} {w : Written} {s′ : Session} → m ≡ length text → m ≤ length out → n ≡ positionAfter out 0 text
-      → out′ ≡ putAt out 0 text → w ≡ writtenFrom d n → s′ ≡ sessionAfter s d 0 (w .server) (w .client) (endStep d (stateOf s) .state)
-      → Left (record { answer = Answer.Done; taken = 0; written = w; session = s′ }) out′
-  unfolding heldEnd endOutcome outcome endStep
-  passed-on {n = n} measured fit en eo ew es =
-      let room : length text ≤ length out = omega arith in
-      let size : n ≡ length text = omega (arith, after-fits out 0 text (omega arith)) in
-      let wrote = ew ∙ (ap (writtenFrom d) size ∙ sizes d text) in
-      rw (le-leb (length text) (length out) room) (
-        rw (es, wrote),
-        eo ∙ (front-put out text room ∙ buffer-then d),
-      )
+  -- a is what the held octets give, and b what has come of a Telnet command
+  module _ {a b : List ℕ} (ea : a ≡ passed (heldOf d (stateOf s))) (eb : b ≡ unfinishedOf d (s .control)) {m k : ℕ} (em : m ≡ length a) (ek : k ≡ length b) where
+    both : a ++ b ≡ text
+    both = λ i. ea i ++ eb i
+
+    long : m + k ≡ length text
+    long = omega (arith, length-append a b, ap length both)
+
+    -- where they have no room
+    pub no-room : {r : Called} → length out < m + k → r ≡ refused Answer.NoRoom s .called → Left r out
+    unfolding heldEnd endOutcome
+    no-room less e = rw (lt-leb (length text) (length out) (omega (arith, long))) (e, same-buffer d)
+
+    -- where they have room, and were put behind each other
+    module _ (fit : m + k ≤ length out) {next n : ℕ} {after out′ : List ℕ} (one : Wrote out 0 a next after) (two : Wrote after next b n out′) where
+      wrote : Wrote out 0 (a ++ b) n out′
+      wrote = joined out 0 a b (λ room. one) (λ room. two) (omega (arith, length-append a b))
+
+      pub let-go : n ≡ m + k
+      let-go = wrote .0 ∙ (after-fits out 0 (a ++ b) (omega (arith, length-append a b)) ∙ omega (arith, length-append a b))
+
+      pub passed-on : {w : Written} {s′ : Session} → w ≡ writtenFrom d n → s′ ≡ sessionAfter s d 0 (w .server) (w .client) (endStep d (stateOf s) .state)
+          → Left (record { answer = Answer.Done; taken = 0; written = w; session = s′ }) out′
+      unfolding heldEnd endOutcome outcome endStep
+      passed-on ew es =
+          let room : length text ≤ length out = omega (arith, long) in
+          let size = ew ∙ (ap (writtenFrom d) (let-go ∙ long) ∙ sizes d text) in
+          rw (le-leb (length text) (length out) room) (
+            rw (es, size),
+            wrote .1 ∙ (ap (putAt out 0) both ∙ (front-put out text room ∙ buffer-then d)),
+          )
 
 -- a buffer for which an end has no text is as it was
 pub untouched : (s : Session) (b : Bool) (buffer : List ℕ)
@@ -158,7 +174,7 @@ untouched s false buffer = (refl, refl)
 module _ (s : Session) (d : ℕ) (out other : List ℕ) (free : refusalOf s d ≡ none) where
   pub client-ends : d ≡ 0 → endCalled s d (length out) (length other) ≡ heldEnd s client (length out)
   unfolding endCalled unlessRefused heldEnd endStep fits
-  client-ends z = rw (free, z, leb·zero (length other), and-true (leb (length (passed (heldOf client (stateOf s)))) (length out)))
+  client-ends z = rw (free, z, leb·zero (length other), and-true (leb (length (letGoOf client (stateOf s))) (length out)))
 
   pub server-ends : (d ≡ 0 → ⊥) → endCalled s d (length out) (length other) ≡ heldEnd s server (length other)
   unfolding endCalled unlessRefused heldEnd endStep fits

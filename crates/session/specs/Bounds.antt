@@ -18,7 +18,7 @@ use Rattle.records.specs.Sound.{sound}
 use Rattle.places.specs.Places.{isPassing}
 use Rattle.session.specs.Calls.{stateOf}
 
--- what the types of a record's arrays and of its opening code say of it
+-- what the types of a record's arrays, of its opening code and of its counts of removed octets say of it
 pub record Shaped (s : Session) : Type 0 where
   pub mapped : length (s .fixed .mapped) ≡ ipv4Width
   pub octets : every (λ n. leb n 255) (s .fixed .mapped) ≡ true
@@ -26,8 +26,10 @@ pub record Shaped (s : Session) : Type 0 where
   pub reply : length (s .reply) ≡ mostHeld
   pub kinds : length (s .kinds) ≡ mostOwed
   pub opening : s .control .opening < 2 ^ 32
+  pub removedUp : s .control .up .removed < 2 ^ 32
+  pub removedDown : s .control .down .removed < 2 ^ 32
 
--- "One octet writes at most 512 octets to the server and at most 1,280 to the client"
+-- "One octet writes at most .. octets to the server and at most .. to the client"
 pub record WritesAtMost (t : Step) : Type 0 where
   pub toServer : length (t .toServer) ≤ mostToServer
   pub toClient : length (t .toClient) ≤ mostToClient
@@ -39,7 +41,7 @@ OctetBound =
     → isQueueFull d (isPassing (s .control .client .place)) (s .control .owed) ≡ false
     → WritesAtMost (octetStep (s .fixed) d (stateOf s) x)
 
--- "So a non-empty arrival not refused by 3, 4, 6 or stopped by 1 takes at least one octet when each buffer has 1,280 free":
+-- "So a non-empty arrival not refused by 3, 4, 6 or stopped by 1 takes at least one octet when each buffer has .. free":
 -- the octets that arrive, the room in each buffer, the answer, and how many octets are taken
 abbrev pub Progress : List ℕ → ℕ → ℕ → Answer → ℕ → Type 0
 Progress octets serverRoom clientRoom answer taken =

@@ -8,7 +8,8 @@ use lib.ListN.{length, drop, replicate}
 use Rattle.rules.specs.Octets.{choose}
 use Rattle.rules.specs.Answers.{Side, client, server, sideOf, mostOwed, fits, wrapped, offsetOf}
 use Rattle.rules.specs.Setup.{setupSize, setupIn, fixedBy, setupSwitches, badFlags, setupAnswer, ipv6Width, ipv4Width}
-use Rattle.rules.specs.Lines.{mostHeld, passed}
+use Rattle.rules.specs.Lines.{mostHeld}
+use Rattle.rules.specs.Telnet.{freshLayer}
 use Rattle.rules.specs.declared.Answer.{Answer}
 use Rattle.rules.specs.declared.Setup.{Setup}
 use Rattle.rules.specs.declared.Switches.{Switches}
@@ -25,7 +26,7 @@ use Rattle.session.specs.declared.Prepared.{Prepared}
 use Rattle.session.specs.declared.Called.{Called}
 use Rattle.session.specs.declared.DirectionOffset.{DirectionOffset}
 use Rattle.places.specs.Places.{at}
-use Rattle.steps.specs.Steps.{State, Step, heldOf}
+use Rattle.steps.specs.Steps.{State, Step, letGoOf}
 use Rattle.steps.specs.Takes.{Took, takes, takes-opened}
 
 -- ---- setup
@@ -49,7 +50,15 @@ startDirection = at Place.Holding 0
 -- a control at the start: the switches, and how many replies are owed
 abbrev pub startControl : Switches → ℕ → Control
 startControl sw owed =
-    record { switches = sw; client = startDirection; server = startDirection; owed = owed; opening = 0 }
+    record {
+      switches = sw;
+      client = startDirection;
+      server = startDirection;
+      owed = owed;
+      opening = 0;
+      up = freshLayer;
+      down = freshLayer;
+    }
 
 -- a record at the start: what is given, and arrays and counts of zeros
 abbrev pub startSession : Bool → Fixed → Control → Session
@@ -173,10 +182,10 @@ abbrev pub writtenFrom : Side → ℕ → Written
 writtenFrom client n = record { server = n; client = 0 }
 writtenFrom server n = record { server = 0; client = n }
 
--- "Ending a direction passes its held octets on unchanged and owes nothing for them"
+-- "Ending a direction passes its held octets on unchanged and owes nothing for them", and a Telnet command that is unfinished
 unfoldable pub endStep : Side → State → Step
 endStep d s =
-    let l = passed (heldOf d s) in
+    let l = letGoOf d s in
     record {
       state = record { control = withEnded d (s .control); command = s .command; reply = s .reply; kinds = s .kinds };
       toServer = goesTo server d l;
@@ -192,7 +201,7 @@ endOutcome s d t false = refused Answer.NoRoom s
 
 -- an end that nothing refuses, by the room in the one buffer that the held octets go to
 unfoldable pub heldEnd : Session → Side → ℕ → Outcome
-heldEnd s d room = endOutcome s d (endStep d (stateOf s)) (leb (length (passed (heldOf d (stateOf s)))) room)
+heldEnd s d room = endOutcome s d (endStep d (stateOf s)) (leb (length (letGoOf d (stateOf s))) room)
 
 -- the buffer that a side's octets go to: "Buffers keep their old contents beyond the written count"
 abbrev pub bufferAfter : Side → Outcome → List ℕ → List ℕ

@@ -33,6 +33,7 @@ use records::layout::LENT_MAPPED;
 use records::layout::LENT_REPLY;
 use records::layout::LENT_SIZE;
 use records::refusal_of;
+use records::unfinished_of;
 use records::with_ended;
 use rules::Answer;
 use rules::Fixed;
@@ -40,12 +41,16 @@ use rules::HELD;
 use rules::IPV4;
 use rules::IPV6;
 use rules::Kinds;
+use rules::Layer;
 use rules::Line;
 use rules::OWED;
 use rules::SETUP;
 use rules::Setup;
 use rules::Switches;
+use rules::Telnet;
 use steps::Written;
+use telnet::put_unfinished;
+use telnet::unfinished_length;
 
 // What setup returns.
 pub struct Prepared {
@@ -124,12 +129,18 @@ fn start(live: bool, fixed: Fixed, switches: Switches, owed: usize) -> Session
         place: Place::Holding,
         held: 0,
     };
+    let nothing = Layer {
+        telnet: Telnet::Clear,
+        removed: 0,
+    };
     let control = Control {
         switches,
         client: direction,
         server: direction,
         owed,
         opening: 0,
+        up: nothing,
+        down: nothing,
     };
     let none = Counts {
         taken: 0,
@@ -351,7 +362,7 @@ fn low_half(n: usize) -> u32
     (n % 4294967296) as u32
 }
 
-// A direction ends: its held octets pass.
+// A direction ends: its held octets pass, and a Telnet command that is unfinished behind them.
 pub fn end(session: Session, direction: u8, to_server: &mut [u8], to_client: &mut [u8]) -> Called
     ensures result { λ r.
         let server = now («to_server» .entry) in
@@ -386,10 +397,12 @@ fn end_held(session: Session, from_client: bool, out: &mut [u8]) -> Called
     let reply = session.reply;
     let kinds = session.kinds;
     let held = held_of(before, from_client, &command, &reply);
-    if out.len() < passed_length(held) {
+    let tail = unfinished_of(before, from_client);
+    if out.len() < passed_length(held) + unfinished_length(tail) {
         return refused(Answer::NoRoom, session);
     }
-    let written = written_from(from_client, put_passed(out, 0, held));
+    let next = put_passed(out, 0, held);
+    let written = written_from(from_client, put_unfinished(out, next, tail));
     let control = with_ended(before, from_client);
     Called {
         answer: Answer::Done,

@@ -9,3 +9,5 @@ pub mod Halves
 pub mod Lent
 pub mod Over
 pub mod Nexts
+pub mod Through
+pub mod Telnets

@@ -103,13 +103,13 @@ module _ (f : Fixed) (d : Side) (x : ℕ) (k : Core) where
 
     module _ (room : isQueueFull d (isPassing (k .state .control .client .place)) (k .state .control .owed) ≡ false) where
       pub next-unfit : {m : Core} → false ≡ octetFits f d x k → m ≡ octetCore f d x k → Answered Answer.NoRoom m (tookNext within f d x k) k
-      unfolding tookNext takes unlessStopped stopOf stop choose octetFits stepFits
+      unfolding tookNext takes unlessStopped stopOf stop choose stepFits
       next-unfit fit e =
           let none = nothing-next within Answer.NoRoom (rw (can, room, sym fit)) in
-          (none .0, e ∙ sym (core-same f d x k (sym fit)) ∙ none .1)
+          (none .0, e ∙ sym (core-same (octetStep f d (k .state) x) k (sym fit)) ∙ none .1)
 
       pub next-fits : {m : Core} → true ≡ octetFits f d x k → m ≡ octetCore f d x k → Answered Answer.Done m (tookNext within f d x k) k
-      unfolding tookNext takes unlessStopped stopOf stop choose octetFits stepFits coreBehind
+      unfolding tookNext takes unlessStopped stopOf stop choose stepFits coreBehind
       next-fits fit e =
           let t = octetStep f d (k .state) x in
           let one : tookNext within f d x k
@@ -118,4 +118,4 @@ module _ (f : Fixed) (d : Side) (x : ℕ) (k : Core) where
           let same : tookNext within f d x k
           ≡ record { answer = Answer.Done; taken = 1; toServer = t .toServer; toClient = t .toClient; state = t .state } =
           one ∙ (λ i. record { answer = Answer.Done; taken = 1; toServer = append-nil (t .toServer) i; toClient = append-nil (t .toClient) i; state = t .state }) in
-          (sym (ap (λ (r : Took). r .answer) same), e ∙ sym (core-next f d x k (sym fit)) ∙ ap (λ (r : Took). coreBehind r k) (sym same))
+          (sym (ap (λ (r : Took). r .answer) same), e ∙ sym (core-next (octetStep f d (k .state) x) k (sym fit)) ∙ ap (λ (r : Took). coreBehind r k) (sym same))

@@ -23,7 +23,7 @@ module _ (f : Fixed) (sw : Switches) where
   client-place d line x e = ap (λ (p : Place). placeEffect f sw p (d .held) (take (d .held) line) (eqb x lf)) (sym e)
 
   pub client-flowing : (held : ℕ) (h : List ℕ) (b : Bool)
-      → choose b (clientEffectOf Gives.Octet (at Place.Holding 0) sw (Owes.One Kind.Plain)) (clientEffectOf Gives.Octet (at Place.Flowing 0) sw Owes.Nothing)
+      → choose b (clientEffectOf Gives.LineOctet (at Place.Holding 0) sw (Owes.One Kind.Plain)) (clientEffectOf Gives.LineOctet (at Place.Flowing 0) sw Owes.Nothing)
       ≡ placeEffect f sw Place.Flowing held h b
   unfolding placeEffect choose
   client-flowing held h true = refl

@@ -48,8 +48,8 @@ joinEffect sw held h =
 unfoldable pub placeEffect : Fixed → Switches → Place → ℕ → List ℕ → Bool → ClientEffect
 placeEffect f sw Place.Holding held h true = judgedEffect sw (command f sw h)
 placeEffect f sw Place.Holding held h false = joinEffect sw held h
-placeEffect f sw Place.Flowing held h true = clientEffectOf Gives.Octet (at Place.Holding 0) sw (Owes.One Kind.Plain)
-placeEffect f sw Place.Flowing held h false = clientEffectOf Gives.Octet (at Place.Flowing 0) sw Owes.Nothing
+placeEffect f sw Place.Flowing held h true = clientEffectOf Gives.LineOctet (at Place.Holding 0) sw (Owes.One Kind.Plain)
+placeEffect f sw Place.Flowing held h false = clientEffectOf Gives.LineOctet (at Place.Flowing 0) sw Owes.Nothing
 placeEffect f sw Place.Passing held h b = clientEffectOf Gives.Octet (at Place.Passing 0) sw Owes.Nothing
 placeEffect f sw Place.Ended held h b = clientEffectOf Gives.Nothing (at Place.Ended 0) sw Owes.Nothing
 

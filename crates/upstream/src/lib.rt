@@ -109,13 +109,13 @@ fn hold_effect(fixed: Fixed, switches: Switches, held: usize, line: &[u8], x: u8
 fn flow_effect(switches: Switches, x: u8) -> ClientEffect
     ensures { λ r.
         ⌜ r ≡ choose (eqb x lf)
-        (clientEffectOf Gives.Octet (directionAt Place.Holding 0) switches (Owes.One Kind.Plain))
-        (clientEffectOf Gives.Octet (directionAt Place.Flowing 0) switches Owes.Nothing) ⌝ }
+        (clientEffectOf Gives.LineOctet (directionAt Place.Holding 0) switches (Owes.One Kind.Plain))
+        (clientEffectOf Gives.LineOctet (directionAt Place.Flowing 0) switches Owes.Nothing) ⌝ }
 {
     if x == LF {
-        return owed(Gives::Octet, Place::Holding, switches, Kind::Plain);
+        return owed(Gives::LineOctet, Place::Holding, switches, Kind::Plain);
     }
-    unowed(Gives::Octet, Place::Flowing, 0, switches)
+    unowed(Gives::LineOctet, Place::Flowing, 0, switches)
 }
 
 // What a client octet x does; `line` is the array that holds the client's octets.

@@ -3,13 +3,16 @@
 // others read.
 use libc::STDIN_FILENO;
 use libc::STDOUT_FILENO;
+use octets::Number;
 use rules::Command;
+use rules::Does;
 use rules::Fixed;
 use rules::IPV4;
 use rules::IPV6;
 use rules::PassiveReply;
 use rules::ReplyLine;
 use rules::Switches;
+use rules::Telnet;
 
 // 2001:db8:2::31
 const CLIENT: [u8; IPV6] = [
@@ -112,6 +115,7 @@ fn put_line(out: &mut [u8], reader: u8, text: &[u8]) -> usize {
         b'I' => put_reply_line(out, 214, text),
         b'J' => put_reply_line(out, 150, text),
         b'P' => put_passive_reply(out, text),
+        b'T' => put_telnet(out, text),
         _ => output::put(out, 0, b"no such reader\n"),
     }
 }
@@ -159,6 +163,80 @@ fn put_passive_reply(out: &mut [u8], content: &[u8]) -> usize {
         PassiveReply::Port(port) => writers::put_extended_passive(out, 0, port),
         PassiveReply::Unreadable => output::put(out, 0, b"passes\n"),
     }
+}
+
+// A Telnet octet, in decimal behind the name of the state before it and a space: the state after it, and what it does.
+fn put_telnet(out: &mut [u8], text: &[u8]) -> usize {
+    let end = octets::find(text, 0, b' ');
+    if text.len() <= end {
+        return output::put(out, 0, b"no such state\n");
+    }
+    let state = state_named(&text[..end]);
+    let Number::Value(x) = octets::read_number(&text[end + 1..], 3, 0, 255) else {
+        return output::put(out, 0, b"no octet\n");
+    };
+    let step = telnet::octet(state, (x % 256) as u8);
+    let then = step.telnet;
+    let does = step.does;
+    let at = put_state(out, then);
+    put_does(out, at, does)
+}
+
+// The state of a name, which is given in capitals; Clear for any that is none.
+fn state_named(name: &[u8]) -> Telnet {
+    if octets::alike(name, b"IAC") {
+        return Telnet::Iac;
+    }
+    if octets::alike(name, b"WILL") {
+        return Telnet::Will;
+    }
+    if octets::alike(name, b"WONT") {
+        return Telnet::Wont;
+    }
+    if octets::alike(name, b"DO") {
+        return Telnet::Do;
+    }
+    if octets::alike(name, b"DONT") {
+        return Telnet::Dont;
+    }
+    if octets::alike(name, b"WITHIN") {
+        return Telnet::Within;
+    }
+    if octets::alike(name, b"WITHINIAC") {
+        return Telnet::WithinIac;
+    }
+    Telnet::Clear
+}
+
+fn put_state(out: &mut [u8], telnet: Telnet) -> usize {
+    match telnet {
+        Telnet::Clear => output::put(out, 0, b"Clear "),
+        Telnet::Iac => output::put(out, 0, b"Iac "),
+        Telnet::Will => output::put(out, 0, b"Will "),
+        Telnet::Wont => output::put(out, 0, b"Wont "),
+        Telnet::Do => output::put(out, 0, b"Do "),
+        Telnet::Dont => output::put(out, 0, b"Dont "),
+        Telnet::Within => output::put(out, 0, b"Within "),
+        Telnet::WithinIac => output::put(out, 0, b"WithinIac "),
+    }
+}
+
+fn put_does(out: &mut [u8], at: usize, does: Does) -> usize {
+    match does {
+        Does::Data(x) => put_told(out, at, b"data ", x as u32),
+        Does::Nothing => output::put(out, at, b"nothing\n"),
+        Does::AnswersDont(x) => put_told(out, at, b"answers 255 254 ", x as u32),
+        Does::AnswersWont(x) => put_told(out, at, b"answers 255 252 ", x as u32),
+        Does::Passes(x) => put_told(out, at, b"passes 255 ", x as u32),
+        Does::Removes(n) => put_told(out, at, b"removes ", n),
+    }
+}
+
+// A word and a number behind it.
+fn put_told(out: &mut [u8], at: usize, word: &[u8], n: u32) -> usize {
+    let next = output::put(out, at, word);
+    let end = output::put_decimal(out, next, (n % 1000) as u16);
+    output::put(out, end, b"\n")
 }
 
 // The first n octets.

@@ -8,6 +8,7 @@
 //! - `I CONTENT`: what it is inside a reply opened with `214-`
 //! - `J CONTENT`: what it is inside a reply opened with `150-`
 //! - `P CONTENT`: the 229 that a 227 becomes
+//! - `T STATE OCTET`: the Telnet state after the octet, and what it does
 //! - `A`: sums of the PORT and 229 lines of all ports
 
 use reference::address;
@@ -15,6 +16,7 @@ use reference::commands::{judge, Addresses, Switches};
 use reference::output::Given;
 use reference::queue::Owed;
 use reference::replies::{extended_passive, Code, Role};
+use reference::telnet::{Does, State};
 use std::io::{self, Read, Write};
 
 const ADDRESSES: Addresses = Addresses {
@@ -41,6 +43,7 @@ fn main() -> io::Result<()> {
             [b'I', b' ', content @ ..] => reply_line(content, opened_with(b"214-")),
             [b'J', b' ', content @ ..] => reply_line(content, opened_with(b"150-")),
             [b'P', b' ', content @ ..] => passive_reply(content),
+            [b'T', b' ', text @ ..] => telnet(text),
             other => panic!("no such vector: {}", other.escape_ascii()),
         };
         out.write_all(&written)?;
@@ -86,6 +89,33 @@ fn passive_reply(content: &[u8]) -> Vec<u8> {
         Some(line) => line.to_vec(),
         None => b"passes\n".to_vec(),
     }
+}
+
+const STATES: [State; 8] = [
+    State::Clear,
+    State::Iac,
+    State::Will,
+    State::Wont,
+    State::Do,
+    State::Dont,
+    State::Within,
+    State::WithinIac,
+];
+
+fn telnet(text: &[u8]) -> Vec<u8> {
+    let text = text.escape_ascii().to_string();
+    let (name, octet) = text.split_once(' ').expect("a state and an octet");
+    let state = STATES.iter().find(|state| format!("{state:?}") == name);
+    let octet = octet.parse().expect("an octet");
+    let (after, does) = state.expect("a state").take(octet);
+    let does = match does {
+        Does::Data(octet) => format!("data {octet}"),
+        Does::Nothing => "nothing".to_string(),
+        Does::Answers([a, b, c]) => format!("answers {a} {b} {c}"),
+        Does::Passes([a, b]) => format!("passes {a} {b}"),
+        Does::Removes(count) => format!("removes {count}"),
+    };
+    format!("{after:?} {does}\n").into_bytes()
 }
 
 /// Port 0 is no port that a line may be read from, so its two lines are written out here.

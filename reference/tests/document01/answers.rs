@@ -257,7 +257,7 @@ fn an_empty_arrival_answers_0() {
     assert_eq!(gateway, before);
 }
 
-/// "One octet writes at most 512 octets to the server": reached by a line of 512.
+/// Without octets 255 "one octet writes at most 512 octets to the server": reached by a line of 512.
 #[test]
 fn most_octets_to_the_server() {
     let line = format!("{}\r\n", "x".repeat(510));
@@ -269,7 +269,7 @@ fn most_octets_to_the_server() {
     }
 }
 
-/// "At most 1,280 to the client": a line of 512 and 16 answers of 48.
+/// And "at most 1,280 to the client": a line of 512 and 16 answers of 48.
 #[test]
 fn most_octets_to_the_client() {
     let mut gateway = greeted(ALL_ON);

@@ -4,7 +4,8 @@ use reference::commands::{self, Addresses, Switches};
 use reference::output::Given;
 use reference::queue::Owed;
 
-use crate::random::{session, Item, Random};
+use crate::layer::{Does, Layer};
+use crate::random::{auth_inside_a_command, session, Item, Random};
 use crate::talk::{
     fresh, Gateway, Outcome, ALL_ON, CLIENT, CLIENT_ADDRESS, MAPPED, PLENTY, SERVER,
 };
@@ -116,7 +117,7 @@ fn little_room_changes_nothing() {
 fn run_tight(gateway: &mut Gateway, item: &Item, random: &mut Random) -> Outcome {
     let mut all = Outcome::default();
     loop {
-        let scale = random.pick(&[&1, &10, &100, &1400]);
+        let scale = random.pick(&[&1, &10, &100, &1900]);
         let (server_room, client_room) = (random.below(*scale), random.below(*scale));
         let outcome = match item {
             Item::Arrival(direction, octets) => {
@@ -147,7 +148,7 @@ fn a_stop_is_where_single_octets_stop() {
                 run(&mut gateway, &item);
                 continue;
             };
-            let scale = random.pick(&[&1, &10, &100, &1400]);
+            let scale = random.pick(&[&1, &10, &100, &1900]);
             let rooms = [random.below(*scale), random.below(*scale)];
             let mut single = gateway.clone();
             let outcome = gateway.arrive(direction, &octets, rooms[0], rooms[1]);
@@ -181,7 +182,8 @@ fn run_singly(
 }
 
 /// "A non-empty arrival not refused by 3, 4, 6 or stopped by 1 takes at least one octet when
-/// each buffer has 1,280 free", since no octet writes more than 512 and 1,280.
+/// each buffer has" 1,791 free, since no octet writes more than 1,024 and 1,791. An end writes at
+/// most 511 octets 255, doubled, and two of a command.
 #[test]
 fn every_octet_keeps_within_its_bounds() {
     let mut random = Random::new(4);
@@ -191,9 +193,9 @@ fn every_octet_keeps_within_its_bounds() {
             for piece in split_into_octets(&item) {
                 let outcome = match &piece {
                     Item::Arrival(direction, octets) => {
-                        gateway.arrive(*direction, octets, 512, 1280)
+                        gateway.arrive(*direction, octets, 1024, 1791)
                     }
-                    Item::End(direction) => gateway.end(*direction, 511, 511),
+                    Item::End(direction) => gateway.end(*direction, 1024, 1024),
                 };
                 assert_ne!(outcome.answer, 2);
             }
@@ -201,28 +203,99 @@ fn every_octet_keeps_within_its_bounds() {
     }
 }
 
-/// "To the server: the client's octets are one text, read line by line."
+/// What the client has said, read for the server.
+#[derive(Default)]
+struct Read {
+    layer: Layer,
+    /// Data octets, and from AUTH on all.
+    said: Vec<u8>,
+    /// How many of them stand before what passes at once, where something does.
+    until_auth: Option<usize>,
+    removed: u32,
+}
+
+/// "To the server: the client's octets are one text, read line by line": the output "without these
+/// answers and without passed Telnet commands, each told apart by the octet or end that wrote it".
 #[test]
 fn what_goes_to_the_server_is_read_from_the_clients_text() {
     let mut random = Random::new(5);
-    for round in 0..600 {
+    for round in 0..300 {
         let flags = FLAGS[round % FLAGS.len()];
         let mut gateway = fresh(flags);
-        let (mut said, mut given, mut ended) = (Vec::new(), Vec::new(), false);
+        let mut read = Read::default();
+        let (mut given, mut ended) = (Vec::new(), false);
         for item in session(&mut random, 30) {
-            let outcome = run(&mut gateway, &item);
-            given.extend(outcome.to_server);
-            match item {
-                Item::Arrival(CLIENT, octets) => said.extend(&octets[..outcome.taken]),
-                Item::End(CLIENT) => ended = true,
-                _ => {}
+            for piece in split_into_octets(&item) {
+                let mut outcome = run(&mut gateway, &piece);
+                match piece {
+                    Item::Arrival(CLIENT, octets) if outcome.taken == 1 => {
+                        let is_command = read.take(flags, octets[0], &outcome);
+                        outcome.to_server.retain(|_| !is_command);
+                    }
+                    Item::End(CLIENT) if !ended => {
+                        let unfinished = read.layer.unfinished();
+                        assert!(outcome.to_server.ends_with(unfinished));
+                        let lines = outcome.to_server.len() - unfinished.len();
+                        outcome.to_server.truncate(lines);
+                        ended = true;
+                    }
+                    Item::Arrival(SERVER, _) => outcome.to_server.clear(),
+                    _ => {}
+                }
+                given.extend(outcome.to_server);
             }
-            assert_eq!(given, to_server(flags, &said, ended));
+            assert_eq!(given, read.to_server(flags, ended).0, "round {round}");
+            assert_eq!(gateway.removed(CLIENT), read.removed, "round {round}");
         }
     }
 }
 
-fn to_server(flags: u8, said: &[u8], ended: bool) -> Vec<u8> {
+impl Read {
+    /// Takes an octet, and says whether it is one of a command, which gives nothing to a line.
+    fn take(&mut self, flags: u8, octet: u8, outcome: &Outcome) -> bool {
+        if self.until_auth.is_some() {
+            self.said.push(octet);
+            return false;
+        }
+        match self.layer.take(octet) {
+            Does::Data(octet) => {
+                self.said.push(octet);
+                let line = self.said.rsplit(|&octet| octet == b'\n').next();
+                let is_512th = line.is_some_and(|line| line.len() == 512);
+                if (octet == b'\n' || is_512th) && self.to_server(flags, false).1 {
+                    self.until_auth = Some(self.said.len());
+                }
+                return false;
+            }
+            Does::Nothing => assert_eq!((&outcome.to_server, &outcome.to_client), NOTHING),
+            Does::Answers(answer) => assert_eq!(outcome.to_client, answer),
+            Does::Passes(command) => assert_eq!(outcome.to_server, command),
+            Does::Removes(count) => self.removed += count,
+        }
+        true
+    }
+
+    /// What the lines give, and whether one of them is AUTH.
+    fn to_server(&self, flags: u8, ended: bool) -> (Vec<u8>, bool) {
+        let (lines, at_once) = self
+            .said
+            .split_at(self.until_auth.unwrap_or(self.said.len()));
+        let (mut given, auth) = lines_to_server(flags, lines, ended);
+        given.extend(at_once);
+        (given, auth)
+    }
+}
+
+const NOTHING: (&Vec<u8>, &Vec<u8>) = (&Vec::new(), &Vec::new());
+
+/// Every 255 of a line leaves doubled.
+fn doubled(line: &[u8]) -> impl Iterator<Item = u8> + '_ {
+    let times = |octet| if octet == 255 { 2 } else { 1 };
+    line.iter()
+        .flat_map(move |&octet| std::iter::repeat_n(octet, times(octet)))
+}
+
+fn lines_to_server(flags: u8, said: &[u8], ended: bool) -> (Vec<u8>, bool) {
     let addresses = Addresses {
         client: CLIENT_ADDRESS,
         mapped: MAPPED,
@@ -233,28 +306,147 @@ fn to_server(flags: u8, said: &[u8], ended: bool) -> Vec<u8> {
     while let Some(lf) = rest.iter().position(|&octet| octet == b'\n') {
         let (line, after) = rest.split_at(lf + 1);
         rest = after;
-        let is_auth = if line.len() > 512 {
-            given.extend(line);
-            line.first_chunk().is_some_and(commands::flowing_auth)
-        } else {
-            let judged = commands::judge(&line[..lf], &addresses, switches);
-            match judged.given {
-                Given::Line => given.extend(line),
-                Given::Made(made) => given.extend(made.to_vec()),
-                Given::Nothing => {}
-            }
-            switches = judged.switches;
-            judged.owed == Owed::Auth
-        };
-        if is_auth {
-            given.extend(rest);
-            return given;
+        if line.len() > 512 {
+            given.extend(doubled(line));
+            continue;
+        }
+        let judged = commands::judge(&line[..lf], &addresses, switches);
+        match judged.given {
+            Given::Line => given.extend(doubled(line)),
+            Given::Made(made) => given.extend(made.to_vec()),
+            Given::Nothing => {}
+        }
+        switches = judged.switches;
+        if judged.owed == Owed::Auth {
+            return (given, true);
         }
     }
-    if ended || rest.len() >= 512 {
-        given.extend(rest);
+    let flows = rest.len() >= 512;
+    if ended || flows {
+        given.extend(doubled(rest));
     }
-    given
+    let auth = flows && rest.first_chunk().is_some_and(commands::flowing_auth);
+    (given, auth)
+}
+
+/// Telnet commands change nothing of what lines give: without them each octet left writes the same,
+/// and they write what the layer says, until their direction passes at once.
+#[test]
+fn lines_give_the_same_without_telnet_commands() {
+    let mut random = Random::new(7);
+    let (mut answers, mut cut_by_auth) = (0, 0);
+    for round in 0..300 {
+        let mut gateway = fresh(ALL_ON);
+        let mut apart = Apart::begin();
+        let mut items = session(&mut random, 30);
+        if round % 4 == 0 {
+            items.splice(..0, auth_inside_a_command(&mut random));
+        }
+        for item in items {
+            for piece in split_into_octets(&item) {
+                let outcome = run(&mut gateway, &piece);
+                if !matches!(outcome.answer, 1 | 6) {
+                    assert_eq!(outcome, apart.run(&piece), "round {round}");
+                }
+            }
+            assert_eq!([CLIENT, SERVER].map(|d| gateway.removed(d)), apart.removed);
+        }
+        answers += apart.answers;
+        cut_by_auth += apart.cut_by_auth;
+    }
+    assert!(answers > 500 && cut_by_auth > 40);
+}
+
+/// A gateway that gets no Telnet commands, and the layer of each direction beside it.
+struct Apart {
+    lines: Gateway,
+    layers: [Layer; 2],
+    removed: [u32; 2],
+    answers: usize,
+    cut_by_auth: usize,
+}
+
+impl Apart {
+    fn begin() -> Apart {
+        Apart {
+            lines: fresh(ALL_ON),
+            layers: [Layer::default(), Layer::default()],
+            removed: [0; 2],
+            answers: 0,
+            cut_by_auth: 0,
+        }
+    }
+
+    fn run(&mut self, piece: &Item) -> Outcome {
+        match piece {
+            Item::End(direction) => {
+                let outcome = run(&mut self.lines, piece);
+                join(outcome, self.leave(*direction))
+            }
+            Item::Arrival(direction, octets) => match octets[..] {
+                [octet] => self.octet(*direction, octet),
+                _ => Outcome::default(),
+            },
+        }
+    }
+
+    fn octet(&mut self, direction: u8, octet: u8) -> Outcome {
+        if self.passes_at_once(direction) {
+            return run(&mut self.lines, &Item::Arrival(direction, vec![octet]));
+        }
+        let side = usize::from(direction);
+        let mut outcome = match self.layers[side].take(octet) {
+            Does::Data(octet) => self.data(direction, octet),
+            Does::Nothing => Outcome::default(),
+            Does::Answers(answer) => {
+                self.answers += 1;
+                onward(1 - direction, &answer)
+            }
+            Does::Passes(command) => onward(direction, &command),
+            Does::Removes(count) => {
+                self.removed[side] += count;
+                Outcome::default()
+            }
+        };
+        outcome.taken = 1;
+        outcome
+    }
+
+    /// A data octet, which may be the one that AUTH reaches the head with.
+    fn data(&mut self, direction: u8, octet: u8) -> Outcome {
+        let octets = vec![octet; if octet == 255 { 2 } else { 1 }];
+        let passed = self.passes_at_once(SERVER);
+        let outcome = run(&mut self.lines, &Item::Arrival(direction, octets));
+        if passed || !self.passes_at_once(SERVER) {
+            return outcome;
+        }
+        let left = self.leave(SERVER);
+        self.cut_by_auth += usize::from(!left.to_client.is_empty());
+        join(outcome, left)
+    }
+
+    /// A 255 is written at once, or else begins a command.
+    fn passes_at_once(&self, direction: u8) -> bool {
+        let outcome = self.lines.clone().arrive(direction, &[255], 1, 1);
+        !outcome.to_server.is_empty() || !outcome.to_client.is_empty()
+    }
+
+    /// What the layer of a direction lets pass where it is left.
+    fn leave(&mut self, direction: u8) -> Outcome {
+        let layer = std::mem::take(&mut self.layers[usize::from(direction)]);
+        onward(direction, layer.unfinished())
+    }
+}
+
+/// Octets written on, the way a direction goes.
+fn onward(direction: u8, octets: &[u8]) -> Outcome {
+    let mut outcome = Outcome::default();
+    if direction == CLIENT {
+        outcome.to_server.extend(octets);
+    } else {
+        outcome.to_client.extend(octets);
+    }
+    outcome
 }
 
 /// A million octets in one flowing line each way, and as many behind AUTH.

@@ -92,6 +92,7 @@ fn ends_take_nothing_and_give_what_is_held() {
 #[test]
 fn escapes() {
     let octets: Vec<u8> = (0..=255).filter(|&octet| octet != b'\n').collect();
+    let octets = [&octets[..], b"\xff"].concat();
     let mut shown = String::new();
     for &octet in &octets {
         match octet {
@@ -100,8 +101,8 @@ fn escapes() {
         }
     }
     assert!(shown.contains(r"\1f\20!") && shown.contains(r",\2d.") && shown.contains(r"~\7f\80"));
-    assert!(shown.contains(r"[\5c]") && shown.ends_with(r"\fe\ff"));
-    let lines = format!("1 255 0 - -\n2 1 0 {shown}\\0a -\n3 2 0 \\2d\\0a -\n");
+    assert!(shown.contains(r"[\5c]") && shown.ends_with(r"\fe\ff\ff"));
+    let lines = format!("1 256 0 - -\n2 1 0 {shown}\\0a -\n3 2 0 \\2d\\0a -\n");
     check_report(
         &[
             (CLIENT_OCTETS, &octets),

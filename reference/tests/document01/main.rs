@@ -1,4 +1,4 @@
-//! Document 01's rules, run, with request 1 of document 02.
+//! Document 01's rules, run, with requests 1 and 2 of document 02.
 
 mod addresses;
 mod answers;
@@ -8,6 +8,7 @@ mod cuts;
 mod errors;
 mod exchanges;
 mod files;
+mod layer;
 mod multi_line;
 mod offsets;
 mod ports;
@@ -15,3 +16,4 @@ mod queue;
 mod random;
 mod server_lines;
 mod talk;
+mod telnet;

@@ -89,12 +89,12 @@ fn lines_that_belong_to_a_reply() {
         "214\t",
         "214\0 x",
         "214\u{a0}x",
-        "214\u{ff}",
+        "214\u{ff}\u{ff}",
         "2140 x",
         " 214 x",
         "-214 x",
         "21 4 x",
-        "\u{ff}214 x",
+        "\u{ff}\u{ff}214 x",
     ];
     for line in with_flowing(&starts) {
         check_belongs(&line);

@@ -96,10 +96,57 @@ const SERVER_LINES: [&str; 24] = [
     "227 (1,2,3,4,5,6",
 ];
 
-/// A session of `count` items with a few lines each; AUTH, long lines, odd octets and ends are
-/// rarer than the rest.
+/// Telnet commands that are finished; a 255 may close a subnegotiation or double one before.
+const COMMANDS: [&[u8]; 20] = [
+    b"\xff\xff",
+    b"\xff\xff",
+    b"\xff\xff\xff\xff",
+    b"\xff\xfb\x01",
+    b"\xff\xfb\x03",
+    b"\xff\xfb\n",
+    b"\xff\xfb\xff",
+    b"\xff\xfc\x01",
+    b"\xff\xfd\x18",
+    b"\xff\xfd\xf0",
+    b"\xff\xfe\n",
+    b"\xff\xfe\xff",
+    b"\xff\xf1",
+    b"\xff\n",
+    b"\xff\xf0",
+    b"\xff\xf4\xff\xf2",
+    b"\xff\0",
+    b"\xff\xfa\x18\x01\xff\xf0",
+    b"\xff\xfa\n\xff\xff\xf0\xff\xfb\xff\xf0",
+    b"\xff\xfa\xff\xfa\xff\xff\xff\xf0",
+];
+
+/// Telnet commands that what follows finishes.
+const UNFINISHED: [&[u8]; 8] = [
+    b"\xff",
+    b"\xff\xfb",
+    b"\xff\xfc",
+    b"\xff\xfd",
+    b"\xff\xfe",
+    b"\xff\xfa",
+    b"\xff\xfa\x18",
+    b"\xff\xfa\x18\xff",
+];
+
+/// A session of `count` items with a few lines each; AUTH, long lines, odd octets, Telnet commands
+/// and ends are rarer than the rest.
 pub fn session(random: &mut Random, count: usize) -> Vec<Item> {
     (0..count).map(|_| item(random)).collect()
+}
+
+/// AUTH with nothing owed and the server inside a command.
+pub fn auth_inside_a_command(random: &mut Random) -> Vec<Item> {
+    let server = |said: &[u8]| Item::Arrival(SERVER, said.to_vec());
+    vec![
+        server(b"220 hi\r\n"),
+        server(random.pick(&[&b""[..], b"2", b"\xff\xff", b"214-x\r\n"])),
+        server(random.pick(&UNFINISHED)),
+        Item::Arrival(CLIENT, b"AUTH TLS\r\n".to_vec()),
+    ]
 }
 
 fn item(random: &mut Random) -> Item {
@@ -114,7 +161,22 @@ fn item(random: &mut Random) -> Item {
     Item::Arrival(direction, said)
 }
 
+/// A piece, at times with a Telnet command anywhere in it.
 fn piece(random: &mut Random, direction: u8) -> Vec<u8> {
+    let mut said = plain_piece(random, direction);
+    while random.one_in(4) {
+        let command = if random.one_in(8) {
+            random.pick(&UNFINISHED)
+        } else {
+            random.pick(&COMMANDS)
+        };
+        let place = random.below(said.len() + 1);
+        said.splice(place..place, command.iter().copied());
+    }
+    said
+}
+
+fn plain_piece(random: &mut Random, direction: u8) -> Vec<u8> {
     if random.one_in(20) {
         return long_line(random, direction);
     }
@@ -138,7 +200,7 @@ fn long_line(random: &mut Random, direction: u8) -> Vec<u8> {
     } else {
         random.pick(&["200 ", "200-", "214 ", "227 1,2,3,4,5,6 ", "150 ", "hello"])
     };
-    let filling = random.pick(&[" ", "x"]);
+    let filling = random.pick(&[" ", "x", "x", "\u{ff}\u{ff}"]);
     let length = 490 + random.below(30);
     octets(&format!("{start}{}\r\n", filling.repeat(length)))
 }

@@ -336,6 +336,6 @@ fn a_flowing_reply() {
 #[test]
 fn server_octets_pass_unchanged() {
     let line: String = (0..=255).filter(|&o| o != 10).map(char::from).collect();
-    let line = format!("220 {line}\r\r\n");
+    let line = doubled(&format!("220 {line}\r\r\n"));
     check_fresh(ALL_ON, &[(Server(&line), "", &line)]);
 }

@@ -74,6 +74,14 @@ impl Gateway {
     pub fn offset(&self, direction: u8) -> u32 {
         self.0.offset(direction)
     }
+
+    pub fn removed(&self, direction: u8) -> u32 {
+        self.0.removed(direction)
+    }
+
+    pub fn telnet(&self, direction: u8) -> reference::telnet::State {
+        self.0.telnet(direction)
+    }
 }
 
 /// What stands in a buffer before it is lent.
@@ -167,6 +175,11 @@ pub fn greeted(flags: u8) -> Gateway {
     let greeting = "220 hi\r\n";
     check(&mut gateway, &[(Step::Server(greeting), "", greeting)]);
     gateway
+}
+
+/// A text whose octets 255 are data of a line, as it arrives and as it leaves.
+pub fn doubled(text: &str) -> String {
+    text.replace('\u{ff}', "\u{ff}\u{ff}")
 }
 
 /// One octet for each character, and back.

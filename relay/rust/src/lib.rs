@@ -43,17 +43,17 @@ use std::fmt;
 use std::net::{Ipv4Addr, Ipv6Addr};
 
 /// The octets of a record.
-pub const RECORD: usize = 1096;
+pub const RECORD: usize = 1106;
 
 /// The octets of a setup: the two addresses and the flags.
 pub const SETUP: usize = 21;
 
 /// With this much room in each buffer an arrival that is not refused, and not stopped by
 /// [`Stop::QueueFull`], takes at least one of its octets.
-pub const ROOM: usize = 1280;
+pub const ROOM: usize = 1791;
 
 /// With this much room in the buffer that it goes to, an end never stops for room.
-pub const END_ROOM: usize = 511;
+pub const END_ROOM: usize = 1024;
 
 /// The flags of a setup: EPSV translation is on.
 pub const EPSV: u8 = 1;
@@ -157,8 +157,8 @@ impl Session {
         }
     }
 
-    /// Octets of a direction arrive. What was not taken is to be handed in again. The client's octets
-    /// may write to both sides.
+    /// Octets of a direction arrive. What was not taken is to be handed in again. The octets of
+    /// either side may write to both.
     pub fn arrive(
         &mut self,
         direction: Direction,
@@ -177,7 +177,8 @@ impl Session {
     }
 
     /// A direction ends, when nothing of it waits in the host: the held octets of its unfinished line
-    /// are written to the other side. Where they have no room, nothing was changed.
+    /// are written to the other side, and behind them what has come of a Telnet command, but for a
+    /// subnegotiation. Where they have no room, nothing was changed.
     pub fn end(
         &mut self,
         direction: Direction,
@@ -197,7 +198,7 @@ impl Session {
         raw::offset(&self.record, direction.number()).unwrap_or(0)
     }
 
-    /// The record's octets.
+    /// The record's octets. `docs/RECORD.md` says what each one tells.
     pub fn record(&self) -> &[u8; RECORD] {
         &self.record
     }

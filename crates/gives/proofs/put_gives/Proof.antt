@@ -20,19 +20,23 @@ returns-3 c = written _ _ (text-of _ _ _ (c .before .before .before .before .enu
 
 returns-4 : tie.Need-returns-4
 unfolding givesText
-returns-4 c = written _ _ (text-of _ _ _ (c .before .before .before .before .enum-told4 .given .1)) (c .before .before .put-line .ensures)
+returns-4 c = written _ _ (text-of _ _ _ (c .before .before .before .before .enum-told4 .given .1)) (c .before .before .put-line-octet .ensures)
 
 returns-5 : tie.Need-returns-5
 unfolding givesText
-returns-5 c = written _ _ (text-of _ _ _ (c .before .before .before .before .enum-told5 .given .1)) (c .before .before .put-pasv .ensures)
+returns-5 c = written _ _ (text-of _ _ _ (c .before .before .before .before .enum-told5 .given .1)) (c .before .before .put-line .ensures)
 
 returns-6 : tie.Need-returns-6
 unfolding givesText
-returns-6 c = written _ _ (text-of _ _ _ (c .before .before .before .before .before .gives .given .1)) (c .before .before .put-port-line .ensures)
+returns-6 c = written _ _ (text-of _ _ _ (c .before .before .before .before .enum-told6 .given .1)) (c .before .before .put-pasv .ensures)
 
 returns-7 : tie.Need-returns-7
 unfolding givesText
-returns-7 c = written _ _ (text-of _ _ _ (c .before .before .before .before .before .gives2 .given .1)) (c .before .before .put-extended-passive .ensures)
+returns-7 c = written _ _ (text-of _ _ _ (c .before .before .before .before .before .gives .given .1)) (c .before .before .put-port-line .ensures)
+
+returns-8 : tie.Need-returns-8
+unfolding givesText
+returns-8 c = written _ _ (text-of _ _ _ (c .before .before .before .before .before .gives2 .given .1)) (c .before .before .put-extended-passive .ensures)
 
 pub put-gives-spec : {M : Type 1} → statement M
 put-gives-spec =
@@ -40,6 +44,8 @@ put-gives-spec =
     (tie.spec
     (λ c. search needs)
     (λ c. search needs)
+    (λ c. search needs)
+    (λ c κs. search needs)
     (λ c. search needs)
     (λ c κs. search needs)
     (λ c. search needs)
@@ -61,4 +67,6 @@ put-gives-spec =
     (λ c. search needs)
     returns-6
     (λ c. search needs)
-    returns-7)
+    returns-7
+    (λ c. search needs)
+    returns-8)

@@ -9,6 +9,9 @@ use Rattle.records.specs.Layout.{clientAt, mappedAt, kindsAt, commandAt, replyA
 use Rattle.image.proofs.fields.Statement.{statement}
 use Rattle.image.proofs.fields.Tie as tie
 
+counts-at-requires-2 : tie.Need-counts-at-requires-2
+counts-at-requires-2 c κs = let size = c .before .before .before .before .before .before .before .before .before .before .before .before .before .before .before .pre in search needs
+
 returns : tie.Need-returns
 returns c =
     let start = c .before .before .before .before .before .before .before .before .before .before .before .before .before .before .before .before in
@@ -52,5 +55,5 @@ fields-spec =
     (λ c κs. search needs)
     (λ c κs. search needs)
     (λ c κs. search needs)
-    (λ c κs. search needs)
+    counts-at-requires-2
     returns)

@@ -1,11 +1,11 @@
--- `image::put_back`: five marks and the numbers behind two marks.
+-- `image::put_back`: six marks and the numbers, behind the two marks that stay.
+use mathlib.Core.Path.{refl}
 use mathlib.Core.Bool.{true}
 use native.Mathlib.Omega.{arith}
-use Rattle.output.proofs.Placing.{joined}
 use Rattle.image.specs.Image.{marksIn, numbersFrom}
-use Rattle.image.proofs.Writing.{numbers-put, front-length}
+use Rattle.image.proofs.Writing.{behind, as-put, numbers-put, front-length}
 use borrow.Author.Needs.{needs}
-use Rattle.records.specs.Layout.{epsvAt}
+use Rattle.records.specs.Layout.{epsvAt, openingAt}
 use Rattle.image.proofs.put_back.Statement.{statement}
 use Rattle.image.proofs.put_back.Tie as tie
 
@@ -24,10 +24,11 @@ returns c =
     let a = start .args in
     let size = start .pre .0 in
     let long = front-length true true (a .control) (a .up) (a .down) in
-    let numbers = numbers-put _ _ (a .control) (a .up) (a .down) (c .before .before .before .before .before .before .before .before .before .before .uncapped .ensures) (c .before .before .before .before .before .before .before .before .before .uncapped2 .ensures) (c .before .before .before .before .before .before .before .before .uncapped3 .ensures)
+    let marked = c .before .before .before .before .before .before .put-control in
+    let numbers = numbers-put (marked .last .0) (a .control) (a .up) (a .down) (c .before .before .before .before .before .before .before .before .before .before .uncapped .ensures) (c .before .before .before .before .before .before .before .before .before .uncapped2 .ensures) (c .before .before .before .before .before .before .before .before .uncapped3 .ensures)
     (c .before .before .put-numbers .ensures) in
-    joined (a .image .now) epsvAt (marksIn (a .control)) (numbersFrom (a .control) (a .up) (a .down))
-    (c .before .before .before .before .before .before .put-control .ensures) numbers (omega arith) .1
+    behind (a .image .now) epsvAt (marksIn (a .control)) (numbersFrom (a .control) (a .up) (a .down)) openingAt refl
+    (marked .ensures) (as-put (marked .last .0) openingAt (numbersFrom (a .control) (a .up) (a .down)) numbers) (omega arith) .1
 
 pub put-back-spec : {M : Type 1} → statement M
 put-back-spec =

@@ -1,10 +1,12 @@
 -- `image::put_image`: marks, numbers and arrays, where there is room for them all.
+use mathlib.Core.Path.{refl}
 use mathlib.Core.List.{_++_}
 use native.Mathlib.Omega.{arith}
-use Rattle.output.proofs.Placing.{no-room, joined}
-use Rattle.image.specs.Image.{marksOf, numbersOf, arraysOf, imageOf}
-use Rattle.image.proofs.Writing.{numbers-put, image-length}
+use Rattle.output.proofs.Placing.{no-room}
+use Rattle.image.specs.Image.{fourOctets, marksOf, numbersOf, arraysOf, imageOf}
+use Rattle.image.proofs.Writing.{behind, as-put, numbers-put, image-length}
 use borrow.Author.Needs.{needs}
+use Rattle.records.specs.Layout.{liveAt, openingAt, clientAt}
 use Rattle.image.proofs.put_image.Statement.{statement}
 use Rattle.image.proofs.put_image.Tie as tie
 
@@ -16,7 +18,7 @@ returns c =
     no-room (a .image .now) 0 (imageOf s) (omega (arith, c .if1 .taken)) .1
 
 returns-2 : tie.Need-returns-2
-unfolding imageOf marksOf numbersOf
+unfolding imageOf marksOf numbersOf fourOctets
 returns-2 c =
     let start = c .before .before .before .before .before .before .before .before .before .before .before .before .before .before .before .before .before .before .before .before .before .before .before in
     let addresses = start .good .1 .0 .1 .0 in
@@ -25,9 +27,12 @@ returns-2 c =
     let a = start .args in
     let s = a .session in
     let size = image-length s (record { client = search needs; mapped = search needs; kinds = search needs; command = search needs; reply = search needs }) in
-    joined _ _ (marksOf s) (numbersOf s ++ arraysOf s) (c .before .before .before .before .before .before .before .before .before .before .before .before .before .before .before .put-marks .ensures)
-    (joined _ _ (numbersOf s) (arraysOf s)
-    (numbers-put _ _ (s .control) (s .up) (s .down) (c .before .before .before .before .before .before .before .before .before .before .capped .ensures) (c .before .before .before .before .before .before .before .before .before .capped2 .ensures) (c .before .before .before .before .before .before .before .before .capped3 .ensures) (c .before .before .before .before .before .before .put-numbers .ensures))
+    let marked = c .before .before .before .before .before .before .before .before .before .before .before .before .before .before .before .put-marks in
+    let counted = c .before .before .before .before .before .before .put-numbers in
+    behind (a .image .now) liveAt (marksOf s) (numbersOf s ++ arraysOf s) openingAt refl (marked .ensures)
+    (behind (marked .last .0) openingAt (numbersOf s) (arraysOf s) clientAt refl
+    (as-put (marked .last .0) openingAt (numbersOf s)
+    (numbers-put (marked .last .0) (s .control) (s .up) (s .down) (c .before .before .before .before .before .before .before .before .before .before .capped .ensures) (c .before .before .before .before .before .before .before .before .before .capped2 .ensures) (c .before .before .before .before .before .before .before .before .capped3 .ensures) (counted .ensures)))
     (c .before .before .put-arrays .ensures))
     (omega (arith, c .before .before .before .before .before .before .before .before .before .before .before .before .before .before .before .before .before .before .before .before .before .if1 .left)) .1
 

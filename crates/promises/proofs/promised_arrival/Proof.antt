@@ -17,7 +17,7 @@ use Rattle.promises.proofs.Promises.{call-promised}
 use Rattle.promises.proofs.promised_arrival.Statement.{statement}
 use Rattle.promises.proofs.promised_arrival.Tie as tie
 
--- the record's arrays have the lengths and the octets of their types, and its opening code fits
+-- the record's arrays have the lengths and the octets of their types, and its numbers fit
 shaped : (c : tie.After-slice-known4) → Shaped (c .before .before .before .before .before .before .before .before .before .before .args .session)
 unfolding judged
 shaped c =
@@ -25,13 +25,16 @@ shaped c =
     let s = start .args .session in
     let mapped = start .good .0 .1 .1 .1 .0 .1 .1 .1 .0 .1 in
     let lines = start .good .0 .1 .1 .1 .1 .1 in
+    let numbers = start .good .0 .1 .1 .1 .1 .0 .1 .1 .1 .1 .1 .1 in
     record {
       mapped = length-unmapped ℕ (s .fixed .mapped) ipv4Width (mapped .0 .1);
       octets = octets-all (s .fixed .mapped) (λ i less. omega (arith, elem-fits-field w8 w8 (s .fixed .mapped) _ i (mapped .1) tt .fits));
       command = length-unmapped ℕ (s .command) mostHeld (lines .0 .1 .0 .1);
       reply = length-unmapped ℕ (s .reply) mostHeld (lines .1 .0 .1 .0 .1);
       kinds = length-unmapped ℕ (s .kinds) mostOwed (lines .1 .1 .0 .1 .0 .1);
-      opening = start .good .0 .1 .1 .1 .1 .0 .1 .1 .1 .1 .1 .1 .0 .1;
+      opening = numbers .0 .1;
+      removedUp = numbers .1 .0 .1 .1 .1 .0 .1;
+      removedDown = numbers .1 .1 .0 .1 .1 .1 .0 .1;
     }
 
 returns : tie.Need-returns

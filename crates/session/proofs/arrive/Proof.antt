@@ -10,7 +10,8 @@ use Rattle.session.proofs.Lines.{laid-size, laid-fixed, laid-state, arr
 use Rattle.records.proofs.Refusals.{by-nothing, countable}
 use Rattle.arrivals.proofs.Going.{took-all}
 use Rattle.records.proofs.Limits.{counts-holdable}
-use Rattle.session.proofs.Outcomes.{side-tested, turned-away, arrives}
+use Rattle.records.proofs.Sides.{side-tested}
+use Rattle.session.proofs.Outcomes.{turned-away, arrives}
 use Rattle.session.proofs.arrive.Statement.{statement}
 use Rattle.session.proofs.arrive.Tie as tie
 

@@ -16,7 +16,7 @@ returns c =
 returns-2 : tie.Need-returns-2
 returns-2 c =
     let place = place-flowing _ (sym (c .before .before .is-flowing .ensures) ∙ c .before .if2 .taken) in
-    let end = c .no-lf-end .ensures in
+    let end = c .run-end .ensures in
     (end .0, givesFlowing (direction-at _ place (c .before .before .before .if1 .left)) (end .1))
 
 returns-3 : tie.Need-returns-3

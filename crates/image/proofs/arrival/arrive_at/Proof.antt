@@ -11,7 +11,7 @@ use borrow.Rule.Slice.PartMut.{same-len-mid}
 use Rattle.records.specs.Layout.{supportedAt, clientAt, lentSize, imageSize}
 use Rattle.records.specs.declared.Session.{Session}
 use Rattle.session.specs.Calls.{arrived}
-use Rattle.session.proofs.Outcomes.{side-tested}
+use Rattle.records.proofs.Sides.{side-tested}
 use Rattle.records.specs.Sound.{refusalOf, sideIf}
 use Rattle.records.proofs.Refusals.{by-nothing}
 use Rattle.steps.specs.Takes.{tookIn}

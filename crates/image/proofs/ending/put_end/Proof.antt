@@ -1,4 +1,4 @@
--- `image::ending::put_end` meets its contract: three fields are stored.
+-- `image::ending::put_end` meets its contract: four fields are stored.
 use borrow.Author.Needs.{needs}
 use mathlib.Core.Path.{_∙_}
 use lib.ListN.{length-set}
@@ -11,17 +11,24 @@ use Rattle.image.proofs.ending.put_end.Tie as tie
 
 number-at-requires : tie.Need-number-at-requires
 number-at-requires c κs =
-    let start = c .before .before .before .before .before in
+    let start = c .before .before .before .before .before .before in
     let long = image-long (start .args .image .now) (start .pre .0) in
     let low = fields-low (sideIf (start .args .from-client)) in
     omega arith
 
 slice-write-image : tie.Need-slice-write-image
 slice-write-image c =
-    let start = c .before .before .before .before .before .before in
+    let start = c .before .before .before .before .before .before .before in
     let long = image-long (start .args .image .now) (start .pre .0) in
     let low = fields-low (sideIf (start .args .from-client)) in
     omega arith
+
+slice-write-image-2 : tie.Need-slice-write-image-2
+slice-write-image-2 c =
+    let start = c .before .before .before .before .before .before .before in
+    let long = image-long (start .args .image .now) (start .pre .0) in
+    let low = fields-low (sideIf (start .args .from-client)) in
+    simp length-set (omega arith)
 
 same-length : tie.Need-same-length
 same-length c =
@@ -33,11 +40,10 @@ returns : tie.Need-returns
 returns c =
     let number = c .before .before .before .before .before .before .before .before .before in
     let places = number .before .before in
-    let start = places .before .before .before .before in
-    end-stored (start .args .image .now) (start .pre .0) (λ i. omega (arith, places .before .before .before .slice-known .given i)) (sideIf (start .args .from-client)) (start .args .n)
-    (places .before .before .place-at .ensures) (places .before .held-at .ensures) (places .written-at .ensures) (number .number-at .ensures)
-    (c .before .before .before .wrapping-add-u32 .ensures) (c .before .before .before .before .before .before .before .put-number .ensures .1)
-    (c .before .before .put-number2 .ensures .1)
+    let start = places .before .before .before .before .before in
+    end-stored (start .args .image .now) (start .pre .0) (λ i. omega (arith, places .before .before .before .before .slice-known .given i)) (sideIf (start .args .from-client)) (start .args .n)
+    (places .before .before .before .place-at .ensures) (places .before .before .telnet-at .ensures) (places .before .held-at .ensures) (places .written-at .ensures)
+    (number .number-at .ensures) (c .before .before .before .wrapping-add-u32 .ensures) (c .before .before .before .before .before .before .before .put-number .ensures .1) (c .before .before .put-number2 .ensures .1)
 
 pub put-end-spec : {M : Type 1} → statement M
 put-end-spec =
@@ -46,8 +52,10 @@ put-end-spec =
     (λ c κs. search needs)
     (λ c κs. search needs)
     (λ c κs. search needs)
+    (λ c κs. search needs)
     number-at-requires
     slice-write-image
+    slice-write-image-2
     (λ c κs. search needs)
     (λ c. search needs)
     (λ c κs. search needs)

@@ -1,13 +1,14 @@
 -- `steps::octet::length_behind` meets its contract: by whether the octet is held, and AUTH first.
 use mathlib.Core.Path.{_≡_, ap, _∙_}
 use mathlib.Core.List.{List, [], _∷_}
-use Prim.Native.Nat.{ℕ, _+_, _≤_}
+use Prim.Native.Nat.{ℕ, _+_, _*_, _≤_}
 use native.Mathlib.Omega.{arith}
 use lib.ListN.{length, take}
 use lib.Seq.{length-take-le}
 use borrow.Author.Needs.{needs}
 use Rattle.rules.specs.Octets.{choose}
 use Rattle.rules.specs.Lines.{mostHeld, passed}
+use Rattle.octets.proofs.Passed.{passed-most}
 use Rattle.octets.proofs.Choices.{choose-true, choose-false}
 use Rattle.gives.specs.declared.Gives.{Gives}
 use Rattle.steps.specs.Steps.{stored}
@@ -26,8 +27,10 @@ module _ (c : tie.After-settled-length) where
   abbrev after : ℕ
   after = length (passed (take (start .args .then) (stored (start .args .reply .now) (start .args .held) (start .args .x) (start .args .gives))))
 
-  few : before ≤ mostHeld
-  few = let p = start .pre .0 in omega (arith, length-take-le (start .args .held) (start .args .reply .now) (omega arith))
+  few : before ≤ 2 * mostHeld
+  few =
+      let p = start .pre .0 in
+      omega (arith, length-take-le (start .args .held) (start .args .reply .now) (omega arith), passed-most (take (start .args .held) (start .args .reply .now)))
 
   one-more : after ≡ before + length (passed (start .args .x ∷ []))
   one-more =
@@ -42,30 +45,32 @@ add-result c =
     let s = c .before .before .before in
     let low = few s in
     let answers = start s .pre .0 .0 in
-    let one = choose-true (before s) 0 (c .before .before .if1 .taken) in
+    let tail = start s .pre .0 .4 in
+    let one = choose-true (before s + start s .args .tail) 0 (c .before .before .if1 .taken) in
     let measured = s .settled-length .ensures in
     let more = c .passed-length .ensures in
+    let two = passed-most (start s .args .x ∷ []) in
     search needs
 
 returns : tie.Need-returns
 returns c =
     let s = c .before .before .before in
-    let one = choose-true (before s) 0 (c .before .before .if1 .taken) in
-    let all = choose-true (after s) 0 (c .before .before .if1 .taken) in
+    let one = choose-true (before s + start s .args .tail) 0 (c .before .before .if1 .taken) in
+    let all = choose-true (after s + start s .args .tail) 0 (c .before .before .if1 .taken) in
     omega (arith, one-more s, s .settled-length .ensures, c .passed-length .ensures)
 
 returns-2 : tie.Need-returns-2
 returns-2 c =
     let s = c .before in
-    let one = choose-false (before s) 0 (c .if1 .left) in
-    let all = choose-false (after s) 0 (c .if1 .left) in
+    let one = choose-false (before s + start s .args .tail) 0 (c .if1 .left) in
+    let all = choose-false (after s + start s .args .tail) 0 (c .if1 .left) in
     omega (arith, s .settled-length .ensures)
 
 returns-3 : tie.Need-returns-3
 returns-3 c =
     let a = c .before .before .before .args in
     c .settled-length2 .ensures
-    ∙ ap (λ (l : List ℕ). a .plan .answers + choose (a .plan .auth) (length (passed (take (a .then) l))) 0)
+    ∙ ap (λ (l : List ℕ). a .plan .answers + choose (a .plan .auth) (length (passed (take (a .then) l)) + a .tail) 0)
     (not-stored (a .reply .now) (a .held) (a .x) (a .gives) (c .before .match .keys2))
 
 pub length-behind-spec : {M : Type 1} → statement M
