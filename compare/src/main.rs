@@ -10,6 +10,7 @@ mod damage;
 mod findings;
 mod gateways;
 mod generate;
+mod layout;
 mod lines;
 #[cfg(test)]
 mod multi_line;

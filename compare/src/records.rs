@@ -5,43 +5,14 @@ use fashlemor::raw;
 
 use crate::gateways::{Gateway, Ours, Seen};
 use crate::generate;
+use crate::layout::{self, number, put};
 use crate::random::Random;
 use crate::session::{Call, Session, Setup};
 use crate::text::call_text;
 
-/// Where a record has its fields: the table in docs/RECORD.md.
-mod layout {
-    pub const LIVE: usize = 0;
-    /// Four marks of 0 or 1, `live` first; two places of 0 to 3 and two Telnet states of 0 to 7
-    /// follow.
-    pub const MARKS: usize = 4;
-    pub const CLIENT_PLACE: usize = 4;
-    pub const SERVER_PLACE: usize = 5;
-    pub const TELNET: [usize; 2] = [6, 7];
-    /// Numbers of four octets, low octet first.
-    pub const OPENING: usize = 8;
-    pub const OWED: usize = 12;
-    pub const CLIENT_HELD: usize = 16;
-    pub const SERVER_HELD: usize = 20;
-    /// Taken and written of direction 0, then of direction 1.
-    pub const COUNTERS: [usize; 4] = [24, 28, 32, 36];
-    /// Octets of subnegotiations removed from each direction.
-    pub const REMOVED: [usize; 2] = [40, 44];
-    pub const KINDS: usize = 68;
-}
-
 const LAST_KIND: u8 = 8;
 const MOST_OWED: usize = 16;
 const MOST_HELD: u32 = 511;
-
-fn put(record: &mut [u8], place: usize, number: u32) {
-    record[place..place + 4].copy_from_slice(&number.to_le_bytes());
-}
-
-fn number(record: &[u8], place: usize) -> u32 {
-    let octets = record[place..].first_chunk().expect("a record is longer");
-    u32::from_le_bytes(*octets)
-}
 
 /// The record after some calls of a session.
 fn reached(random: &mut Random, session: &Session) -> Vec<u8> {
@@ -298,24 +269,5 @@ mod tests {
             some_call(&mut Random::new(seed), &session).what == What::End
         });
         assert!(ends.count() >= 20);
-    }
-
-    /// A forged number in another order might be refused all the same, so the layout is asked here.
-    #[test]
-    fn numbers_are_where_the_layout_has_them() {
-        let mut record = [0; fashlemor::RECORD];
-        raw::setup(&mut record, &[1; fashlemor::SETUP]);
-        let subnegotiation = [255, 250, 24, 255, 240];
-        let line = [&b"214-\n"[..], &[b'x'; 300], &subnegotiation, &[255, 253]].concat();
-        let called = raw::arrive(&mut record, raw::SERVER, &line, &mut [], &mut [0; 5]);
-        assert_eq!(called.answer, raw::DONE);
-        let counters = layout::COUNTERS.map(|counter| number(&record, counter));
-        assert_eq!(counters, [0, 0, 312, 5]);
-        let removed = layout::REMOVED.map(|counter| number(&record, counter));
-        assert_eq!(removed, [0, 5]);
-        assert_eq!(layout::TELNET.map(|mark| record[mark]), [0, 4]);
-        assert_eq!(number(&record, layout::SERVER_HELD), 300);
-        assert_eq!(number(&record, layout::OPENING), 214);
-        assert_eq!(number(&record, layout::OWED), 1);
     }
 }
