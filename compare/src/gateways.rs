@@ -3,6 +3,7 @@
 use fashlemor::raw;
 use reference::Gateway as ReferenceGateway;
 
+use crate::layout;
 use crate::session::{Call, Rooms, Session, Setup, What, FULL_ROOM};
 use crate::text::octets_text;
 
@@ -13,21 +14,28 @@ pub struct Seen {
     pub taken: usize,
     pub to_server: Vec<u8>,
     pub to_client: Vec<u8>,
-    /// The offset of each direction after the call.
-    pub offsets: [u32; 2],
+    pub totals: Totals,
     /// Something touched that must not be, or said that cannot be.
     pub fault: Option<&'static str>,
 }
 
+/// What the record tells of each direction after a call.
+#[derive(Clone, Copy, Debug, PartialEq, Eq)]
+pub struct Totals {
+    pub offsets: [u32; 2],
+    /// The octets of subnegotiations removed, in 32 bits that wrap.
+    pub removed: [u32; 2],
+}
+
 impl Seen {
     /// A setup takes and writes nothing.
-    fn of_setup(answer: u8, offsets: [u32; 2], fault: Option<&'static str>) -> Seen {
+    fn of_setup(answer: u8, totals: Totals, fault: Option<&'static str>) -> Seen {
         Seen {
             answer,
             taken: 0,
             to_server: Vec::new(),
             to_client: Vec::new(),
-            offsets,
+            totals,
             fault,
         }
     }
@@ -42,7 +50,9 @@ impl Seen {
         let mut text = format!("    answer {}, taken {}\n", self.answer, self.taken);
         text += &format!("    to the server {}\n", octets_text(&self.to_server));
         text += &format!("    to the client {}\n", octets_text(&self.to_client));
-        text += &format!("    offsets {} and {}\n", self.offsets[0], self.offsets[1]);
+        let Totals { offsets, removed } = self.totals;
+        text += &format!("    offsets {} and {}\n", offsets[0], offsets[1]);
+        text += &format!("    octets removed {} and {}\n", removed[0], removed[1]);
         if let Some(fault) = self.fault {
             text += &format!("    {fault}\n");
         }
@@ -87,8 +97,11 @@ pub struct Reference {
 }
 
 impl Reference {
-    fn offsets(&self) -> [u32; 2] {
-        [0, 1].map(|direction| self.gateway.offset(direction))
+    fn totals(&self) -> Totals {
+        Totals {
+            offsets: [0, 1].map(|direction| self.gateway.offset(direction)),
+            removed: [0, 1].map(|direction| self.gateway.removed(direction)),
+        }
     }
 
     fn called(&mut self, call: &Call) -> Counts {
@@ -114,7 +127,7 @@ impl Gateway for Reference {
         let (gateway, answer) = ReferenceGateway::setup(setup.client, setup.mapped, setup.flags);
         let lent = Buffers::new();
         let reference = Reference { gateway, lent };
-        let seen = Seen::of_setup(answer, reference.offsets(), None);
+        let seen = Seen::of_setup(answer, reference.totals(), None);
         (reference, seen)
     }
 
@@ -122,7 +135,7 @@ impl Gateway for Reference {
         let before = self.gateway.clone();
         let counts = self.called(call);
         let fault = self.lent.fault(call, counts, before != self.gateway);
-        self.lent.seen(counts, self.offsets(), fault)
+        self.lent.seen(counts, self.totals(), fault)
     }
 }
 
@@ -150,9 +163,14 @@ impl Ours {
         &self.record[..self.record.len() - GUARD]
     }
 
-    pub fn offsets(&self) -> [u32; 2] {
-        [raw::CLIENT, raw::SERVER]
-            .map(|direction| raw::offset(self.record(), direction).unwrap_or(u32::MAX))
+    /// Memory too short for a record is read as that of a refused setup, which removed nothing.
+    pub fn totals(&self) -> Totals {
+        let offset = |direction| raw::offset(self.record(), direction);
+        let removed = |place| layout::number(self.record(), place);
+        Totals {
+            offsets: [raw::CLIENT, raw::SERVER].map(|side| offset(side).unwrap_or(u32::MAX)),
+            removed: layout::REMOVED.map(|place| removed(place).unwrap_or(0)),
+        }
     }
 
     fn is_written_behind(&self) -> bool {
@@ -192,7 +210,7 @@ impl Gateway for Ours {
         } else {
             None
         };
-        let seen = Seen::of_setup(answer, ours.offsets(), fault);
+        let seen = Seen::of_setup(answer, ours.totals(), fault);
         (ours, seen)
     }
 
@@ -204,7 +222,7 @@ impl Gateway for Ours {
         } else {
             self.lent.fault(call, counts, before != self.record())
         };
-        self.lent.seen(counts, self.offsets(), fault)
+        self.lent.seen(counts, self.totals(), fault)
     }
 }
 
@@ -254,13 +272,13 @@ impl Buffers {
         }
     }
 
-    fn seen(&mut self, counts: Counts, offsets: [u32; 2], fault: Option<&'static str>) -> Seen {
+    fn seen(&mut self, counts: Counts, totals: Totals, fault: Option<&'static str>) -> Seen {
         Seen {
             answer: counts.answer,
             taken: counts.taken,
             to_server: self.to_server.take(counts.to_server),
             to_client: self.to_client.take(counts.to_client),
-            offsets,
+            totals,
             fault,
         }
     }
@@ -330,10 +348,63 @@ mod tests {
     /// Two gateways with the same fault do not agree.
     #[test]
     fn a_fault_is_a_difference() {
-        let sound = Seen::of_setup(0, [0, 0], None);
-        let faulty = Seen::of_setup(0, [0, 0], Some("a fault"));
+        let totals = Totals {
+            offsets: [0, 0],
+            removed: [0, 0],
+        };
+        let sound = Seen::of_setup(0, totals, None);
+        let faulty = Seen::of_setup(0, totals, Some("a fault"));
         assert!(sound.agrees(&sound.clone()));
         assert!(!faulty.agrees(&faulty.clone()));
         assert!(!sound.agrees(&faulty));
+    }
+
+    /// The reference, but of a side it tells one octet removed too few.
+    struct Miscounting<const SIDE: usize>(Reference);
+
+    impl<const SIDE: usize> Gateway for Miscounting<SIDE> {
+        fn setup(setup: &Setup) -> (Self, Seen) {
+            let (gateway, seen) = Reference::setup(setup);
+            (Miscounting(gateway), seen)
+        }
+
+        fn call(&mut self, call: &Call) -> Seen {
+            let mut seen = self.0.call(call);
+            let removed = &mut seen.totals.removed[SIDE];
+            *removed = removed.saturating_sub(1);
+            seen
+        }
+    }
+
+    /// The octets removed from each direction, after each call.
+    fn removed<A: Gateway>(session: &Session) -> Vec<[u32; 2]> {
+        let (mut gateway, _) = A::setup(&session.setup);
+        let seen = session.calls.iter().map(|call| gateway.call(call));
+        seen.map(|seen| seen.totals.removed).collect()
+    }
+
+    #[test]
+    fn octets_removed_are_compared() {
+        let session = Session {
+            setup: Setup {
+                client: [0; 16],
+                mapped: [0; 4],
+                flags: 0,
+            },
+            calls: vec![
+                Call::arrival(0, &[255, 250, 24, 255]),
+                Call::arrival(1, &[b'2', 255]),
+                Call::arrival(1, &[250, 255, 255, 240, b'x']),
+                Call::arrival(0, &[240, b'x']),
+                Call::end(1),
+            ],
+        };
+        let counts = [[4, 0], [4, 0], [4, 6], [5, 6], [5, 6]];
+        assert_eq!(removed::<Ours>(&session), counts);
+        assert_eq!(removed::<Reference>(&session), counts);
+        let client = difference::<Miscounting<0>, Reference>(&session);
+        assert_eq!(client.map(|found| found.call), Some(1));
+        let server = difference::<Miscounting<1>, Reference>(&session);
+        assert_eq!(server.map(|found| found.call), Some(3));
     }
 }

@@ -669,6 +669,7 @@ mod tests {
         passes_at_once: [bool; 2],
         flows: [bool; 2],
         held_at_end: bool,
+        removed: [bool; 2],
         replies: MultiLine,
     }
 
@@ -703,6 +704,7 @@ mod tests {
             self.own_answer |= own.iter().any(|line| contains(&seen.to_client, line));
             let wrote = !seen.to_server.is_empty() || !seen.to_client.is_empty();
             self.held_at_end |= call.what == What::End && wrote;
+            self.removed = seen.totals.removed.map(|octets| octets > 0);
         }
 
         /// Octets of an unfinished line that are written: a line of 512 flows, a shorter one
@@ -756,6 +758,8 @@ mod tests {
         often("a client line flows", all, |one| one.flows[0]);
         often("a server line flows", all, |one| one.flows[1]);
         often("an end with octets held", all, |one| one.held_at_end);
+        often("the client's octets removed", all, |one| one.removed[0]);
+        often("the server's octets removed", all, |one| one.removed[1]);
         often("answer 1", all, |one| one.answers[1]);
         often("answer 6", all, |one| one.answers[6]);
         for case in multi_line::CASES {

@@ -22,9 +22,10 @@ pub fn put(record: &mut [u8], place: usize, number: u32) {
     record[place..place + 4].copy_from_slice(&number.to_le_bytes());
 }
 
-pub fn number(record: &[u8], place: usize) -> u32 {
-    let octets = record[place..].first_chunk().expect("a record is longer");
-    u32::from_le_bytes(*octets)
+/// The number at a place, unless the record is too short for it.
+pub fn number(record: &[u8], place: usize) -> Option<u32> {
+    let octets = record.get(place..)?.first_chunk()?;
+    Some(u32::from_le_bytes(*octets))
 }
 
 #[cfg(test)]
@@ -42,12 +43,12 @@ mod tests {
         let called = raw::arrive(&mut record, raw::SERVER, &line, &mut [], &mut [0; 5]);
         assert_eq!(called.answer, raw::DONE);
         let counters = COUNTERS.map(|counter| number(&record, counter));
-        assert_eq!(counters, [0, 0, 312, 5]);
+        assert_eq!(counters, [0, 0, 312, 5].map(Some));
         let removed = REMOVED.map(|counter| number(&record, counter));
-        assert_eq!(removed, [0, 5]);
+        assert_eq!(removed, [0, 5].map(Some));
         assert_eq!(TELNET.map(|mark| record[mark]), [0, 4]);
-        assert_eq!(number(&record, SERVER_HELD), 300);
-        assert_eq!(number(&record, OPENING), 214);
-        assert_eq!(number(&record, OWED), 1);
+        assert_eq!(number(&record, SERVER_HELD), Some(300));
+        assert_eq!(number(&record, OPENING), Some(214));
+        assert_eq!(number(&record, OWED), Some(1));
     }
 }

@@ -5,7 +5,7 @@ use fashlemor::raw;
 
 use crate::gateways::{Gateway, Ours, Seen};
 use crate::generate;
-use crate::layout::{self, number, put};
+use crate::layout::{self, put};
 use crate::random::Random;
 use crate::session::{Call, Session, Setup};
 use crate::text::call_text;
@@ -126,7 +126,7 @@ fn not_refused(ours: &mut Ours, call: &Call, answer: u8) -> Option<String> {
         taken: 0,
         to_server: Vec::new(),
         to_client: Vec::new(),
-        offsets: ours.offsets(),
+        totals: ours.totals(),
         fault: None,
     };
     let seen = ours.call(call);
@@ -197,25 +197,38 @@ pub fn longer(seed: u64) -> Option<String> {
     (!same || !kept).then(|| "memory that is longer than its record is not used as one".into())
 }
 
+/// Twenty octets before the wrap.
+const NEAR_WRAP: u32 = u32::MAX - 19;
+
 /// Ours with all counters advanced by the same number, so that they wrap on the way: offsets are
-/// differences, so nothing else may be seen of it.
-pub struct NearWrap(Ours);
+/// differences, so nothing is seen of it there, and from the octets removed it is taken off again.
+pub struct NearWrap {
+    ours: Ours,
+    advanced: u32,
+}
 
 impl Gateway for NearWrap {
+    /// The record of a refused setup stays as it is.
     fn setup(setup: &Setup) -> (NearWrap, Seen) {
         let (ours, seen) = Ours::setup(setup);
+        let advanced = match seen.answer {
+            raw::DONE => NEAR_WRAP,
+            _ => 0,
+        };
         let mut record = ours.record().to_vec();
-        if seen.answer == raw::DONE {
-            for counter in layout::COUNTERS.into_iter().chain(layout::REMOVED) {
-                let advanced = number(&record, counter).wrapping_sub(20);
-                put(&mut record, counter, advanced);
-            }
+        for counter in layout::COUNTERS.into_iter().chain(layout::REMOVED) {
+            put(&mut record, counter, advanced);
         }
-        (NearWrap(Ours::of_record(&record)), seen)
+        let ours = Ours::of_record(&record);
+        (NearWrap { ours, advanced }, seen)
     }
 
     fn call(&mut self, call: &Call) -> Seen {
-        self.0.call(call)
+        let mut seen = self.ours.call(call);
+        for count in &mut seen.totals.removed {
+            *count = count.wrapping_sub(self.advanced);
+        }
+        seen
     }
 }
 
