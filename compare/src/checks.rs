@@ -83,11 +83,11 @@ fn library_sessions(options: &Options) -> Compared {
     Ok(options.count)
 }
 
-/// Every tenth with counters that wrap on the way too.
+/// Some with counters that wrap on the way too.
 fn library_lists(options: &Options) -> Compared {
     for seed in seeds(options.seed, options.lists) {
         let list = generate::list(seed);
-        if seed % 10 == 0 {
+        if NearWrap::is_tried(seed) {
             let name = || format!("seed {seed}, a list of calls with counters near their wrap");
             same_calls::<NearWrap>(name, list.clone())?;
         }

@@ -197,14 +197,22 @@ pub fn longer(seed: u64) -> Option<String> {
     (!same || !kept).then(|| "memory that is longer than its record is not used as one".into())
 }
 
-/// Twenty octets before the wrap.
-const NEAR_WRAP: u32 = u32::MAX - 19;
+/// Five octets before the wrap.
+const NEAR_WRAP: u32 = u32::MAX - 4;
 
 /// Ours with all counters advanced by the same number, so that they wrap on the way: offsets are
 /// differences, so nothing is seen of it there, and from the octets removed it is taken off again.
 pub struct NearWrap {
     ours: Ours,
     advanced: u32,
+}
+
+impl NearWrap {
+    /// For lists of two seeds in ten, an odd one and an even one: only those of odd ones hold
+    /// Telnet material.
+    pub fn is_tried(seed: u64) -> bool {
+        seed % 10 < 2
+    }
 }
 
 impl Gateway for NearWrap {
@@ -282,5 +290,25 @@ mod tests {
             some_call(&mut Random::new(seed), &session).what == What::End
         });
         assert!(ends.count() >= 20);
+    }
+
+    /// Whether the octets removed from each direction are so many that their count wraps.
+    fn wraps(list: &Session) -> [bool; 2] {
+        let (mut near, _) = NearWrap::setup(&list.setup);
+        for call in &list.calls {
+            near.call(call);
+        }
+        let removed = near.ours.totals().removed;
+        removed.map(|count| count < near.advanced)
+    }
+
+    #[test]
+    fn octets_removed_wrap() {
+        let tried = (1..=2000).filter(|&seed| NearWrap::is_tried(seed));
+        let lists: Vec<_> = tried.map(|seed| wraps(&generate::list(seed))).collect();
+        for side in [0, 1] {
+            let wrapped = lists.iter().filter(|wraps| wraps[side]).count();
+            assert!(wrapped * 50 >= lists.len(), "{wrapped} of {}", lists.len());
+        }
     }
 }
