@@ -8,7 +8,7 @@ use crate::records::{self, NearWrap};
 use crate::replay::Replay;
 use crate::samples::{self, Sample};
 use crate::session::Session;
-use crate::{damage, findings, generate};
+use crate::{damage, findings, generate, states};
 
 pub enum Failure {
     /// A difference, as it is to be shown.
@@ -26,6 +26,7 @@ pub fn all(options: &Options) -> Result<String, Failure> {
     let replay = Replay::new(&options.replay);
     let counts = [
         (library_samples(&samples)?, "sessions of cut samples"),
+        (library_states()?, "sessions of Telnet states"),
         (library_sessions(options)?, "sessions"),
         (library_lists(options)?, "lists of calls"),
         (library_records(options)?, "forged records"),
@@ -71,6 +72,15 @@ fn library_samples(samples: &[Sample]) -> Compared {
             same_calls::<Ours>(|| sample.path.display().to_string(), cut)?;
             count += 1;
         }
+    }
+    Ok(count)
+}
+
+fn library_states() -> Compared {
+    let mut count = 0;
+    for session in states::sessions() {
+        same_calls::<Ours>(|| "a session of Telnet states".into(), session)?;
+        count += 1;
     }
     Ok(count)
 }

@@ -21,6 +21,7 @@ mod replay;
 mod samples;
 mod session;
 mod shrink;
+mod states;
 mod telnet;
 #[cfg(test)]
 mod telnet_cases;

@@ -42,18 +42,28 @@ fn octet_case(side: u8, state: State, octet: u8) -> String {
     format!("{} in {state:?}: {}", name(side), class(octet))
 }
 
-/// The cases that every kind of session has to come to.
-pub fn cases() -> Vec<String> {
+/// The octets that come, the ends, the cuts and AUTH in each state.
+pub fn cases_of_states() -> Vec<String> {
     let mut cases = Vec::new();
-    for side in [CLIENT, SERVER] {
-        let who = name(side);
-        for state in UNFINISHED {
+    for state in UNFINISHED {
+        for side in [CLIENT, SERVER] {
+            let who = name(side);
             for octet in [b'\n', 240, 250, 251, 252, 255, b'x'] {
                 cases.push(octet_case(side, state, octet));
             }
             cases.push(format!("{who} ends in {state:?}"));
             cases.push(format!("{who} is cut in {state:?}"));
         }
+        cases.push(format!("AUTH reaches the server in {state:?}"));
+    }
+    cases
+}
+
+/// The cases that every kind of session has to come to.
+pub fn cases() -> Vec<String> {
+    let mut cases = cases_of_states();
+    for side in [CLIENT, SERVER] {
+        let who = name(side);
         for what in [
             "doubles a 255 in a held line",
             "doubles a 255 in a flowing line",
@@ -63,9 +73,6 @@ pub fn cases() -> Vec<String> {
         ] {
             cases.push(format!("{who} {what}"));
         }
-    }
-    for state in UNFINISHED {
-        cases.push(format!("AUTH reaches the server in {state:?}"));
     }
     cases.push("AUTH at a doubled 255".into());
     cases.push("the client's 255 is stopped by number 1".into());
