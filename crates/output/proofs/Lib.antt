@@ -1,3 +1,4 @@
 pub mod Decimal
+pub mod Tenths
 pub mod Placing
 pub mod Front

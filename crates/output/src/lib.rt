@@ -1,6 +1,6 @@
 // Octets and decimal numbers put into a lent buffer, or octets into an array, whole or not at all.
 ghost use mathlib.Core.Path.{_≡_};
-ghost use Prim.Native.Nat.{min, _+_, _%_, _≤_};
+ghost use Prim.Native.Nat.{min, _+_, _/_, _%_, _≤_};
 ghost use lib.Dec.{leb};
 ghost use lib.ListN.{length, replicate};
 ghost use Rattle.rules.specs.Octets.{decimal};
@@ -113,10 +113,10 @@ pub fn decimal_length(n: u16) -> usize
 pub fn put_decimal(out: &mut [u8], at: usize, n: u16) -> usize
     ensures { λ r. ⌜ Put (now (out .entry)) at (decimal n) r (now (out .exit)) ⌝ }
 {
-    let tens = n / 10;
-    let hundreds = tens / 10;
-    let thousands = hundreds / 10;
-    let ten_thousands = thousands / 10;
+    let tens = tenth(n);
+    let hundreds = tenth(tens);
+    let thousands = tenth(hundreds);
+    let ten_thousands = tenth(thousands);
     let digits = [
         digit(ten_thousands),
         digit(thousands),
@@ -128,9 +128,16 @@ pub fn put_decimal(out: &mut [u8], at: usize, n: u16) -> usize
     put(out, at, &digits[start..])
 }
 
-// The last digit of a number.
+// A product divided by 2^19: ten times the factor is that and 2 more, which is too little to show in 16 bits.
+fn tenth(n: u16) -> u16
+    ensures { λ r. ⌜ r ≡ n / 10 ⌝ }
+{
+    (n as u32 * 52429 / 524288) as u16
+}
+
+// The last digit of a number: what ten times its tenth leaves of it.
 fn digit(n: u16) -> u8
     ensures { λ r. ⌜ r ≡ 48 + n % 10 ⌝ }
 {
-    48 + (n % 10) as u8
+    48 + (n - 10 * tenth(n)) as u8
 }

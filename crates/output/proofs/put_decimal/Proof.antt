@@ -14,7 +14,7 @@ unfolding digits
 returns c =
     let d = c .before .before .before .before .before .before in
     let e = d .before .before .before .before in
-    let a = e .before .before .before .args in
+    let a = e .before .before .before .before .before .before .before .args in
     let five : e .before .digit .result ∷ e .digit2 .result ∷ d .before .before .before .digit3 .result ∷ d .before .before .digit4 .result ∷ d .before .digit5 .result ∷ [] ≡ digits 5 (a .n) = cc in
     let part = decimal-part 4 (a .n) _ (d .decimal-length .result) (omega arith) five (d .decimal-length .ensures .0) in
     subst (λ (l : List ℕ). Wrote (a .out .now) (a .at) l (c .before .before .put .result) (c .before .before .put .last .0)) part
@@ -24,6 +24,10 @@ pub put-decimal-spec : {M : Type 1} → statement M
 put-decimal-spec =
     tie.close
     (tie.spec
+    (λ c κs. search needs)
+    (λ c κs. search needs)
+    (λ c κs. search needs)
+    (λ c κs. search needs)
     (λ c κs. search needs)
     (λ c κs. search needs)
     (λ c κs. search needs)
