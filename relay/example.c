@@ -31,10 +31,11 @@ static int wrote(uint8_t answer, const char *server, const char *client) {
         && holds(to_client, counts.to_client, client);
 }
 
-/* The client 2001:db8:2::31, for whom 192.0.2.31 stands towards the server. */
+/* The client 2001:db8:2::31, for whom 192.0.2.31 stands towards the server 198.51.100.7. */
 static uint8_t set_up(void) {
     static const uint8_t setup[FASHLEMOR_SETUP] = {
-        0x20, 0x01, 0x0d, 0xb8, 0x00, 0x02, [15] = 0x31, 192, 0, 2, 31, FASHLEMOR_EPSV};
+        0x20, 0x01, 0x0d, 0xb8, 0x00, 0x02, [15] = 0x31, 192, 0, 2, 31,
+        FASHLEMOR_EPSV, 198, 51, 100, 7};
     return fashlemor_setup(record, sizeof record, setup, sizeof setup);
 }
 

@@ -25,19 +25,19 @@ extern "C" {
 
 /* The version of these functions and of the record. A record is for the version that wrote it. */
 #define FASHLEMOR_VERSION_MAJOR 0
-#define FASHLEMOR_VERSION_MINOR 4
+#define FASHLEMOR_VERSION_MINOR 5
 
 /* The octets of a record. It is an image with no pointer in it, laid out in docs/RECORD.md: it may
  * be copied, kept and moved between calls, and needs no alignment; at a multiple of 64 a call costs
  * least. Octets behind these are neither read nor written. A record that is shorter, or whose
- * octets are no record (all zero, for example), is refused with 4. A host may read it: octets 40 to
- * 43 tell how many octets of Telnet subnegotiations were removed from the client's, 44 to 47 from
+ * octets are no record (all zero, for example), is refused with 4. A host may read it: octets 41 to
+ * 44 tell how many octets of Telnet subnegotiations were removed from the client's, 45 to 48 from
  * the server's, in 32 bits that wrap, low octet first. */
-#define FASHLEMOR_RECORD 1106
+#define FASHLEMOR_RECORD 1111
 
-/* The octets of a setup: the client's IPv6 address (16) and its mapped IPv4 address (4), both in
- * network order, and a sum of enum fashlemor_flag (1). */
-#define FASHLEMOR_SETUP 21
+/* The octets of a setup: the client's IPv6 address (16) and its mapped IPv4 address (4), a sum of
+ * enum fashlemor_flag (1), and the server's IPv4 address (4); addresses are in network order. */
+#define FASHLEMOR_SETUP 25
 
 /* With this much room in each buffer an arrival that is not refused and not stopped by 1 takes at
  * least one of its octets. */
@@ -56,7 +56,10 @@ enum fashlemor_direction {
 enum fashlemor_flag {
     FASHLEMOR_EPSV = 1,           /* EPSV translation is on */
     FASHLEMOR_EPRT_SUPPORTED = 2, /* EPRT is supported */
-    FASHLEMOR_EPRT = 4            /* EPRT translation is on; only with EPRT_SUPPORTED */
+    FASHLEMOR_EPRT = 4,           /* EPRT translation is on; only with EPRT_SUPPORTED */
+    /* a 227 for a translated EPSV that names another address than the server's becomes a 425;
+     * without it the server's address is not looked at */
+    FASHLEMOR_STRICT = 8
 };
 
 /* What a call answers. With 3, 4 and 6 nothing was taken or written; the record is as it was. */
@@ -111,7 +114,7 @@ uint8_t fashlemor_end(uint8_t *record, size_t record_length,
 /* Sets *offset to the octets written for a direction minus those taken from it, modulo 2^32: by how
  * much sequence numbers move on the way through. Answers 0, or 3 and sets nothing. The offset is
  * that of the record's counters, also where an arrival would be refused with 4. It is 0 where there
- * are fewer octets than a record, or one of the first eight has a value that docs/RECORD.md does
+ * are fewer octets than a record, or one of the first nine has a value that docs/RECORD.md does
  * not list. */
 uint8_t fashlemor_offset(const uint8_t *record, size_t record_length,
                          uint64_t direction,

@@ -116,6 +116,7 @@ static uint8_t set_up(struct session *s, const struct in6_addr *client) {
     memcpy(setup, client->s6_addr, 16);
     memcpy(setup + 16, &options.mapped, 4);
     setup[20] = options.flags;
+    memcpy(setup + 21, &options.server.sin_addr, 4);
     return fashlemor_setup(s->record, sizeof s->record, setup, sizeof setup);
 }
 
@@ -580,6 +581,7 @@ static const char usage[] =
     "  -b, --bind-mapped       connect to the server from that address\n"
     "      --no-epsv           leave EPSV as it is\n"
     "      --eprt              translate EPRT; needs --mapped\n"
+    "      --strict            refuse a 227 with another address than the server's\n"
     "  -h, --help              this text\n"
     "\n"
     "When it listens it writes the line `listening on ADDRESS PORT` to standard output.\n";
@@ -621,6 +623,7 @@ static void read_option(int option) {
     case 'b': options.bind_mapped = true; break;
     case 'E': options.flags &= (uint8_t)~FASHLEMOR_EPSV; break;
     case 'R': options.flags |= FASHLEMOR_EPRT_SUPPORTED | FASHLEMOR_EPRT; break;
+    case 'S': options.flags |= FASHLEMOR_STRICT; break;
     case 'h':
         fputs(usage, stdout);
         exit(0);
@@ -640,6 +643,7 @@ static void read_options(int count, char **words) {
         {"bind-mapped", no_argument, NULL, 'b'},
         {"no-epsv", no_argument, NULL, 'E'},
         {"eprt", no_argument, NULL, 'R'},
+        {"strict", no_argument, NULL, 'S'},
         {"help", no_argument, NULL, 'h'},
         {NULL, 0, NULL, 0},
     };

@@ -2,7 +2,7 @@
 
 usage: calls.py OURS REFERENCE [SEED [SCRIPTS]], or calls.py --stored, which writes the hand-made lists, with which crates/calls/stdin ends. Both
 programs read scripts (see crates/calls/src/main.rt) and write what each call did. Beside the hand-made lists, lists are made by seed: valid and
-odd lines, replies of several lines, Telnet commands, cut anywhere, small rooms, wrong directions, calls after ends.
+odd lines, replies of several lines, Telnet commands, foreign addresses, cut anywhere, small rooms, wrong directions, calls after ends.
 """
 import random
 import struct
@@ -13,6 +13,7 @@ from definitions import CLIENT, MAPPED, line, passive, several_lines, telnet
 from usage import arguments
 
 LIMIT = 60000  # octets of scripts handed to the programs at once
+SERVER = bytes([198, 51, 100, 7])
 NOOP, EPSV, ALGS, AUTH = b"NOOP\r\n", b"EPSV\r\n", b"ALGS STATUS64\r\n", b"AUTH TLS\r\n"
 
 
@@ -24,8 +25,8 @@ def end(side, server=4096, client=4096):
     return struct.pack(">BBHHH", 1, side, server, client, 0)
 
 
-def script(flags, *calls):
-    return CLIENT + MAPPED + bytes([flags]) + b"".join(calls)
+def script(flags, *calls, server=SERVER):
+    return CLIENT + MAPPED + bytes([flags]) + server + b"".join(calls)
 
 
 def stops():
@@ -33,7 +34,7 @@ def stops():
     greeting = arrival(1, b"220 hi\r\n")
     long = b"x" * 600 + b"\r\n"
     held = b"x" * 511
-    for room in (0, 1, 510, 511, 512, 513, 601, 602):
+    for room in (0, 1, 510, 511, 512, 601, 602):
         # the 512th octet needs 512 at once; the ones before it need nothing, the ones behind it one each
         taken = 511 if room < 512 else room
         yield script(7, greeting, arrival(0, long, room, 4096), arrival(0, long[taken:]))
@@ -102,8 +103,34 @@ def telnet_commands():
             yield script(7, greeting, arrival(0, NOOP + AUTH + held + begun), arrival(1, b"200 a\r\n"), end(0))
 
 
+def foreign():
+    """The strict form: 227s of the server's address and of others, compared by value; those that are not read; and the room of a 425."""
+    greeting = arrival(1, b"220 hi\r\n")
+    own, other = b"227 x (198,51,100,7,237,19)\r\n", b"227 x (10,0,0,5,237,19)\r\n"
+    for flags in (1, 9):
+        for numbers in (b"198,051,100,007,1,2", b"198,51,100,70,1,2", b"7,100,51,198,1,2", b"192,0,2,31,1,2", b"10,0,0,5,0,0", b"10,0,0,5,1"):
+            yield script(flags, greeting, arrival(0, EPSV + NOOP), arrival(1, b"227 (" + numbers + b")\n"), arrival(1, other))
+        yield script(flags, greeting, arrival(0, EPSV * 3 + ALGS), arrival(1, other + own), arrival(1, other))
+        yield script(flags, greeting, arrival(0, b"PASV\r\n" + EPSV * 2), arrival(1, other), arrival(1, b"227-x\r\n" + other), arrival(1, other))
+        yield script(flags, greeting, arrival(0, EPSV), arrival(1, b"227 1,2,3,4,5,6" + b"x" * 498 + b"\n"), arrival(1, other))
+        yield script(flags, greeting, arrival(0, EPSV + AUTH), arrival(1, other + other))
+        yield script(flags, greeting, arrival(0, EPSV), arrival(1, other[:-1]), end(1))
+    for place in range(4):
+        server = bytearray(SERVER)
+        server[place] ^= 1
+        yield script(9, greeting, arrival(0, EPSV), arrival(1, own), server=bytes(server))
+    # switched on later, off and on again
+    for on in (b"ENABLE64", b"DISABLE64\r\nALGS ENABLE64"):
+        yield script(8, greeting, arrival(0, b"ALGS " + on + b"\r\n" + EPSV), arrival(1, other))
+    # 33 octets, and 14 of an own answer behind them
+    for room in (0, 32, 33, 46, 47, 48):
+        yield script(15, greeting, arrival(0, EPSV + ALGS), arrival(1, other, 0, room), arrival(1, b"\n"))
+        yield script(15, greeting, arrival(0, EPSV), arrival(1, other, 0, room), arrival(1, b"\n"))
+
+
 def hand_made():
-    """Stops in the middle, sixteen owed, AUTH behind owed replies and with held octets, ends in every order, replies of several lines, Telnet."""
+    """Stops in the middle, sixteen owed, AUTH behind owed replies and with held octets, ends in every order, replies of several lines, Telnet, and
+    foreign addresses."""
     greeting = arrival(1, b"220 hi\r\n")
     yield script(7, greeting, arrival(0, EPSV), arrival(1, b"227 x (192,0,2,31,237,19)\r\n"))
     yield from stops()
@@ -118,6 +145,7 @@ def hand_made():
         yield script(7, greeting, arrival(0, b"EP"), arrival(1, b"2"), end(first), end(second), arrival(0, b"SV\r\n"), arrival(1, b"00\r\n"), end(2))
     yield from own_codes()
     yield from telnet_commands()
+    yield from foreign()
 
 
 def every_flag():
@@ -145,7 +173,8 @@ def made(r):
             calls.append(arrival(side, piece, *rooms))
             if several and r.random() < 0.5:
                 calls.append(arrival(0, line(r, 0), *rooms))
-    return script(r.choice([7, 7, 7, 1, 3, 6, 0, r.randint(0, 255)]), *calls)
+    server = r.choice([SERVER, MAPPED, bytes([1, 2, 3, 4])])
+    return script(r.choice([7, 7, 7, 1, 3, 6, 0, 15, 15, 9, r.randint(0, 255)]), *calls, server=server)
 
 
 def given(scripts):

@@ -17,7 +17,8 @@ from usage import arguments
 ROOT = pathlib.Path(__file__).resolve().parent.parent
 CLIENT = bytes.fromhex("20010db8000200000000000000000031")
 MAPPED = bytes([192, 0, 2, 31])
-FLAGS = [0, 1, 2, 3, 6, 7, 7, 7]
+SERVER = bytes([198, 51, 100, 7])  # as in `allOn`
+FLAGS = [0, 1, 2, 3, 6, 7, 7, 7, 8, 9, 9, 11, 15, 15, 15, 15]
 BATCH = 8
 ENDINGS = [b"\r\n"] * 6 + [b"\n", b"\n", b"\r\r\n", b" \r\n", b"\t\r\n"]
 COMMANDS = [
@@ -32,6 +33,7 @@ COMMANDS = [
 ]
 REPLIES = [
     b"220 hi", b"200 ok", b"227 x (192,0,2,31,237,19)", b"227 x (192,0,2,31,0,0)", b"227 =1,2,3,4,5,6", b"227 (1,2,3,4,5,6789)", b"227", b"227 ",
+    b"227 x (198,51,100,7,237,19)", b"227 198,051,100,007,1,2", b"227 198,51,100,8,1,2", b"227 x (198,51,100,7,0,0)",
     b"227 1,2,3,4,5,6,7", b"227 a 4 (1,2,3,4,5,6)", b"227-x (1,2,3,4,5,6)", b"227 (0255,1,1,1,1,1)", b"227 (1,2,3,4,256,1)",
     b"227 001,02,3,4,019,000", b"229 x (|||5|)", b"150 wait", b"120", b"500 no", b"600 x", b"099 y", b"220x", b"220-multi", b" 220 x", b"", b"hello",
     b"234 go", b"22", b"2200 x", b"620 x", b"099-y", b"100-x", b"214-x", b"214 end", b"227\t1,2,3,4,5,6", b"220 \xff\xff",
@@ -78,7 +80,8 @@ def several_lines(r):
 def passive(r):
     """EPSV, at times behind another command, and a 227 behind lines that may spoil it."""
     commands = r.choice([b"EPSV\r\n", b"NOOP\r\nEPSV\r\n"])
-    return [(0, commands), (1, r.choice(BEFORE_PASSIVE) + b"227 x (192,0,2,31,237,19)\r\n")]
+    address = r.choice([b"198,51,100,7", b"198,051,100,007", b"198,51,100,70", b"192,0,2,31", b"10,0,0,5"])
+    return [(0, commands), (1, r.choice(BEFORE_PASSIVE) + b"227 x (" + address + b",237,19)\r\n")]
 
 
 def divides_pair(text):
@@ -146,7 +149,7 @@ def with_telnet(r, entries):
 
 
 def session_file(flags, entries):
-    bodies = [(4, CLIENT + MAPPED + bytes([flags]))]
+    bodies = [(4, CLIENT + MAPPED + bytes([flags]) + SERVER)]
     bodies += [(side + 2, b"") if octets is None else (side, octets) for side, octets in entries]
     table = b"".join(bytes([kind, 0]) + len(body).to_bytes(2, "big") for kind, body in bodies)
     return len(bodies).to_bytes(2, "big") + table + b"".join(body for _, body in bodies)
@@ -224,7 +227,7 @@ sent said s c = record { speech = said; up = s; down = c }
 
 unfoldable pub read : Case → Sent
 read c =
-    let su : Setup = record { client = allOn .client; mapped = allOn .mapped; flags = c .flags } in
+    let su : Setup = record { client = allOn .client; mapped = allOn .mapped; flags = c .flags; server = allOn .server } in
     let spoken = toServer su (textOf client (c .history)) (hasEnded client (c .history)) in
     sent spoken (allToServer (eachItem su (c .history))) (toClient su (c .history))
 """

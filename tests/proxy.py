@@ -790,6 +790,17 @@ def source_address(proxy):
         raise Fault(f"the server sees {proxy.seen_from[0]}, not {MAPPED}")
 
 
+def strict(proxy):
+    """The server is at 127.0.0.1, and may name no other address."""
+    client, server = proxy.pair()
+    for named, answer in [(b"127,0,0,1", b"229 Entering Extended Passive Mode (|||60691|)\r\n"), (b"127,0,0,2", b"425 Can't open data connection.\r\n")]:
+        client.says(b"EPSV\r\n")
+        server.hears(b"PASV\r\n")
+        server.says(b"227 x (" + named + b",237,19)\r\n")
+        client.hears(answer)
+    part(client, server)
+
+
 def refused(proxy):
     """Nobody listens where the server should be: a client is closed, the next one too."""
     for _ in range(3):
@@ -867,6 +878,7 @@ def main():
         program = build(name, library, source)
         results += options_hold(name, program)
         results += run_cases(name, program, CASES + SIZED[name], *TRANSLATED)
+        results += run_cases(name, program, [strict], "--strict")
         results += run_cases(name, program, [refused], listens=False)
     print(f"{results.count(True)} passed, {results.count(False)} failed")
     return results.count(False) > 0

@@ -16,7 +16,7 @@ ROOT = pathlib.Path(__file__).resolve().parent.parent
 SAMPLES = ROOT / "samples"
 COMMAND = ROOT / "replay"
 # 48 entries, a setup and 47 arrivals of 1,024 octets
-LONGEST = 2 + 4 * 48 + 21 + 47 * 1024
+LONGEST = 2 + 4 * 48 + 25 + 47 * 1024
 HINT = "./replay: this looks like a text, from which ./session-file makes a session file"
 USAGE = "usage: ./replay [FILE]"
 # what is no session file but looks like the text of one
@@ -34,9 +34,9 @@ mkdir -p target/bin && cp "$MAKES" target/bin/replay
 
 def largest():
     """The largest session file: after AUTH every octet passes, and each is shown by three."""
-    table = bytes([0, 48, 4, 0, 0, 21]) + bytes([0, 0, 4, 0]) * 47
+    table = bytes([0, 48, 4, 0, 0, 25]) + bytes([0, 0, 4, 0]) * 47
     octets = b"AUTH\n".ljust(1024, b"\0")
-    return table + bytes(20) + b"\7" + octets * 47
+    return table + bytes(20) + b"\7" + bytes(4) + octets * 47
 
 
 def run(*words, given=b"", output=subprocess.PIPE, **settings):
@@ -76,7 +76,7 @@ def program_checks(program, folder):
 
 def command_checks(folder):
     wrong = folder / "wrong.txt"
-    wrong.write_text("setup ::1 192.0.2.31\nclint end\n")
+    wrong.write_text("setup ::1 192.0.2.31 198.51.100.7\nclint end\n")
     yield "./replay of a session file", run(COMMAND, SAMPLES / "auth.session")[:2] == (0, report("auth"))
     yield "./replay of a text, which has nothing to prove any more", run(COMMAND, SAMPLES / "eprt.txt") == (0, report("eprt"), "")
     status, written, said = run(COMMAND)

@@ -23,7 +23,7 @@ DAMAGED = {
 }
 FEWEST = 12
 
-SETUP = "setup ::1 192.0.2.31 epsv\n"
+SETUP = "setup ::1 192.0.2.31 198.51.100.7 epsv\n"
 # a bad text, the line of its fault, and what is said of it
 FAULTS = [
     ("", 1, "no setup"),
@@ -36,17 +36,29 @@ FAULTS = [
     (SETUP + "client x\n", 2, "unknown word x"),
     (SETUP + 'client "x" y\n', 2, "unknown word y"),
     (SETUP + "client * 3\n", 2, "unknown word *"),
-    (SETUP + "cut 1 setup ::1 192.0.2.31\n", 2, "unknown word setup"),
-    ("setup ::1 192.0.2.31 epsv pasv\n", 1, "unknown word pasv"),
-    ("setup ::1 192.0.2.31 flags 1 epsv\n", 1, "unknown word epsv"),
-    ("\nsetup 1::2::3 192.0.2.31\n", 2, "bad address 1::2::3"),
-    ("setup fe80::1%1 192.0.2.31\n", 1, "bad address fe80::1%1"),
-    ("setup 192.0.2.31 ::1\n", 1, "bad address 192.0.2.31"),
-    ("setup ::1 192.0.2.256\n", 1, "bad address 192.0.2.256"),
-    ("setup ::1 192.0.2\n", 1, "bad address 192.0.2"),
-    ("setup ::1\n", 1, "missing address"),
-    ("setup ::1 192.0.2.31 flags 256\n", 1, "bad number 256"),
-    ("setup ::1 192.0.2.31 flags\n", 1, "missing number"),
+    (SETUP + "cut 1 setup ::1 192.0.2.31 198.51.100.7\n", 2, "unknown word setup"),
+    ("setup ::1 192.0.2.31 198.51.100.7 epsv pasv\n", 1, "unknown word pasv"),
+    ("setup ::1 192.0.2.31 198.51.100.7 Strict\n", 1, "unknown word Strict"),
+    ("setup ::1 192.0.2.31 198.51.100.7 198.51.100.8\n", 1, "unknown word 198.51.100.8"),
+    ("setup ::1 192.0.2.31 198.51.100.7 flags 1 epsv\n", 1, "unknown word epsv"),
+    ("\nsetup 1::2::3 192.0.2.31 198.51.100.7\n", 2, "bad address 1::2::3"),
+    ("setup fe80::1%1 192.0.2.31 198.51.100.7\n", 1, "bad address fe80::1%1"),
+    ("setup 192.0.2.31 ::1 198.51.100.7\n", 1, "bad address 192.0.2.31"),
+    ("setup ::1 192.0.2.256 198.51.100.7\n", 1, "bad address 192.0.2.256"),
+    ("setup ::1 192.0.2.31 198.51.100.256\n", 1, "bad address 198.51.100.256"),
+    ("setup ::1 192.0.2.31 ::2\n", 1, "bad address ::2"),
+    ("setup ::1 192.0.2 198.51.100.7\n", 1, "bad address 192.0.2"),
+    ("setup\n", 1, "missing client's address"),
+    ("setup epsv\n", 1, "missing client's address"),
+    ("setup ::1\n", 1, "missing mapped address"),
+    ("setup ::1 flags 7\n", 1, "missing mapped address"),
+    ("setup ::1 192.0.2.31\n", 1, "missing server's address"),
+    ("\nsetup ::1 192.0.2.31 epsv eprt-supported eprt\n", 2, "missing server's address"),
+    ("setup ::1 192.0.2.31 strict\n", 1, "missing server's address"),
+    ("setup ::1 192.0.2.31 flags 9\n", 1, "missing server's address"),
+    ("setup ::1 192.0.2.31 epsv 198.51.100.7\n", 1, "missing server's address"),
+    ("setup ::1 192.0.2.31 198.51.100.7 flags 256\n", 1, "bad number 256"),
+    ("setup ::1 192.0.2.31 198.51.100.7 flags\n", 1, "missing number"),
     (SETUP + 'client "a\\q"\n', 2, "bad escape \\q"),
     (SETUP + 'client "a\\x4"\n', 2, "bad escape \\x"),
     (SETUP + 'client "\t"\n', 2, "octet \\x09 must be written so"),
@@ -72,36 +84,49 @@ FAULTS = [
     (SETUP + 'cut 1024 client "x" * 999999\n', 2, "more than 48 entries"),
 ]
 
-BODY = bytes(15) + b"\x01\xc0\x00\x02\x1f"
+SERVER = b"\xc6\x33\x64\x07"
+
+
+def body(flags):
+    """The setup that `setup ::1 192.0.2.31 198.51.100.7` and these flags say."""
+    return bytes(15) + b"\x01\xc0\x00\x02\x1f" + bytes([flags]) + SERVER
+
+
 # a text, and the session file written out
 MADE = [
-    ("setup ::1 192.0.2.31", bytes([0, 1, 4, 0, 0, 21]) + BODY + b"\0"),
-    ("setup ::1 192.0.2.31 epsv eprt-supported eprt", bytes([0, 1, 4, 0, 0, 21]) + BODY + b"\7"),
-    ("setup ::1 192.0.2.31 flags 255  # all", bytes([0, 1, 4, 0, 0, 21]) + BODY + b"\xff"),
+    ("setup ::1 192.0.2.31 198.51.100.7", bytes([0, 1, 4, 0, 0, 25]) + body(0)),
+    ("setup ::1 192.0.2.31 198.51.100.7 epsv eprt-supported eprt", bytes([0, 1, 4, 0, 0, 25]) + body(7)),
+    ("setup ::1 192.0.2.31 198.51.100.7 strict", bytes([0, 1, 4, 0, 0, 25]) + body(8)),
+    ("setup ::1 192.0.2.31 198.51.100.7 strict eprt eprt-supported epsv", bytes([0, 1, 4, 0, 0, 25]) + body(15)),
+    ("setup ::1 192.0.2.31 198.51.100.7 flags 16", bytes([0, 1, 4, 0, 0, 25]) + body(16)),
+    ("setup ::1 192.0.2.31 198.51.100.7 flags 255  # all", bytes([0, 1, 4, 0, 0, 25]) + body(255)),
     (
         SETUP.replace("\n", "\r\n") + '\r\nclient "# \\r\\n\\t\\\\\\"\\x00\\xFF~"\nserver "ab" * 2"c" "d" * 0 #"\n',
-        bytes([0, 3, 4, 0, 0, 21, 0, 0, 0, 10, 1, 0, 0, 5]) + BODY + b'\1# \r\n\t\\"\0\xff~ababc',
+        bytes([0, 3, 4, 0, 0, 25, 0, 0, 0, 10, 1, 0, 0, 5]) + body(1) + b'# \r\n\t\\"\0\xff~ababc',
     ),
-    (SETUP + 'cut 2 server "abc"\ncut 1 client ""', bytes([0, 4, 4, 0, 0, 21, 1, 0, 0, 2, 1, 0, 0, 1, 0, 0, 0, 0]) + BODY + b"\1abc"),
-    (SETUP + 'server end\nclient end\nserver ""\n', bytes([0, 4, 4, 0, 0, 21, 3, 0, 0, 0, 2, 0, 0, 0, 1, 0, 0, 0]) + BODY + b"\1"),
-    (SETUP + 'client "x" * 1024', bytes([0, 2, 4, 0, 0, 21, 0, 0, 4, 0]) + BODY + b"\1" + b"x" * 1024),
-    (SETUP + 'cut 1 client "x" * 47', bytes([0, 48, 4, 0, 0, 21]) + bytes([0, 0, 0, 1]) * 47 + BODY + b"\1" + b"x" * 47),
+    (SETUP + 'cut 2 server "abc"\ncut 1 client ""', bytes([0, 4, 4, 0, 0, 25, 1, 0, 0, 2, 1, 0, 0, 1, 0, 0, 0, 0]) + body(1) + b"abc"),
+    (SETUP + 'server end\nclient end\nserver ""\n', bytes([0, 4, 4, 0, 0, 25, 3, 0, 0, 0, 2, 0, 0, 0, 1, 0, 0, 0]) + body(1)),
+    (SETUP + 'client "x" * 1024', bytes([0, 2, 4, 0, 0, 25, 0, 0, 4, 0]) + body(1) + b"x" * 1024),
+    (SETUP + 'cut 1 client "x" * 47', bytes([0, 48, 4, 0, 0, 25]) + bytes([0, 0, 0, 1]) * 47 + body(1) + b"x" * 47),
 ]
 
-GOOD = bytes([0, 3, 4, 0, 0, 21, 0, 0, 0, 2, 2, 0, 0, 0]) + BODY + b"\1ab"
+GOOD = bytes([0, 3, 4, 0, 0, 25, 0, 0, 0, 2, 2, 0, 0, 0]) + body(1) + b"ab"
 
 
 def changed(place, octet):
     return GOOD[:place] + bytes([octet]) + GOOD[place + 1 :]
 
 
-SECOND_SETUP = bytes([0, 2] + [4, 0, 0, 21] * 2) + (BODY + b"\0") * 2
-TOO_LONG = bytes([0, 2, 4, 0, 0, 21, 0, 0, 4, 1]) + BODY + b"\0" + b"x" * 1025
+SECOND_SETUP = bytes([0, 2] + [4, 0, 0, 25] * 2) + body(0) * 2
+# as setups were before they named the server
+OF_21 = bytes([0, 1, 4, 0, 0, 21]) + body(1)[:21]
+TOO_LONG = bytes([0, 2, 4, 0, 0, 25, 0, 0, 4, 1]) + body(0) + b"x" * 1025
 # what is no session file, and the number that refuses it
 REFUSED = [
     (b"", 7), (GOOD[:1], 7), (GOOD[:2], 7), (GOOD[:13], 7), (GOOD[:14], 7), (GOOD[:-1], 7), (GOOD + b"x", 7), (changed(9, 1), 7),
     (changed(1, 0), 8), (changed(1, 49), 8), (changed(0, 1), 8), (b"\0\0", 8), (changed(6, 5), 8), (changed(6, 4), 8), (changed(2, 0), 8),
-    (SECOND_SETUP, 8), (TOO_LONG, 8), (changed(7, 1), 8), (changed(8, 5), 8), (changed(13, 1), 8), (changed(5, 20), 8), (changed(5, 22), 8),
+    (SECOND_SETUP, 8), (TOO_LONG, 8), (changed(7, 1), 8), (changed(8, 5), 8), (changed(13, 1), 8), (OF_21, 8), (changed(5, 21), 8),
+    (changed(5, 24), 8), (changed(5, 26), 8),
 ]
 
 

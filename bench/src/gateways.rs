@@ -10,6 +10,7 @@ const CLIENT_ADDRESS: [u8; 16] = [
     0x20, 0x01, 0x0d, 0xb8, 0, 2, 0, 0, 0, 0, 0, 0, 0, 0, 0, 0x31,
 ];
 const MAPPED_ADDRESS: [u8; 4] = [192, 0, 2, 31];
+const SERVER_ADDRESS: [u8; 4] = [198, 51, 100, 7];
 /// EPSV on, EPRT supported and on.
 const FLAGS: u8 = 7;
 
@@ -61,6 +62,7 @@ impl Gateway for Ours {
             client: CLIENT_ADDRESS.into(),
             mapped: MAPPED_ADDRESS.into(),
             flags: FLAGS,
+            server: SERVER_ADDRESS.into(),
         };
         let mut record = [0; fashlemor::RECORD];
         assert_eq!(raw::setup(&mut record, &setup.octets()), raw::DONE);
@@ -86,7 +88,8 @@ pub struct Reference(reference::Gateway);
 
 impl Gateway for Reference {
     fn setup() -> Reference {
-        let (gateway, answer) = reference::Gateway::setup(CLIENT_ADDRESS, MAPPED_ADDRESS, FLAGS);
+        let (gateway, answer) =
+            reference::Gateway::setup(CLIENT_ADDRESS, MAPPED_ADDRESS, FLAGS, SERVER_ADDRESS);
         assert_eq!(answer, 0);
         Reference(gateway)
     }

@@ -5,7 +5,7 @@ use crate::random::Random;
 
 const COUNTS: [u16; 8] = [0, 1, 2, 47, 48, 49, 256, 65535];
 const KINDS: [u8; 8] = [0, 1, 2, 3, 4, 5, 128, 255];
-const LENGTHS: [u16; 10] = [0, 1, 20, 21, 22, 1023, 1024, 1025, 32768, 65535];
+const LENGTHS: [u16; 11] = [0, 1, 21, 24, 25, 26, 1023, 1024, 1025, 32768, 65535];
 
 pub fn file(seed: u64) -> Vec<u8> {
     let mut random = Random::new(seed ^ 0x0da3_a6ed);

@@ -124,7 +124,8 @@ impl Reference {
 
 impl Gateway for Reference {
     fn setup(setup: &Setup) -> (Reference, Seen) {
-        let (gateway, answer) = ReferenceGateway::setup(setup.client, setup.mapped, setup.flags);
+        let (gateway, answer) =
+            ReferenceGateway::setup(setup.client, setup.mapped, setup.flags, setup.server);
         let lent = Buffers::new();
         let reference = Reference { gateway, lent };
         let seen = Seen::of_setup(answer, reference.totals(), None);
@@ -390,6 +391,7 @@ mod tests {
                 client: [0; 16],
                 mapped: [0; 4],
                 flags: 0,
+                server: [0; 4],
             },
             calls: vec![
                 Call::arrival(0, &[255, 250, 24, 255]),

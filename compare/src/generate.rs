@@ -5,7 +5,7 @@ use crate::lines;
 use crate::random::Random;
 use crate::session::{
     Call, Rooms, Session, Setup, What, CLIENT_ADDRESS, FULL_ROOM, LONGEST_BODY, MAPPED_ADDRESS,
-    MOST_ENTRIES,
+    MOST_ENTRIES, PASSIVE_ADDRESS, SERVER_ADDRESS, STRICT,
 };
 use crate::telnet;
 
@@ -14,9 +14,9 @@ const SERVER: u8 = 1;
 
 /// Everything on, most of the time.
 const FLAGS: [u8; 11] = [7, 7, 7, 7, 7, 7, 1, 3, 6, 2, 0];
-const ROOMS: [usize; 20] = [
-    0, 0, 1, 2, 5, 6, 10, 40, 48, 100, 511, 512, 513, 600, 1279, 1280, 1281, 4096, FULL_ROOM,
-    FULL_ROOM,
+const ROOMS: [usize; 22] = [
+    0, 0, 1, 2, 5, 6, 10, 32, 33, 40, 48, 100, 511, 512, 513, 600, 1279, 1280, 1281, 4096,
+    FULL_ROOM, FULL_ROOM,
 ];
 /// About the octets of answers and commands, and the most that an octet or an end writes.
 const TELNET_ROOMS: [usize; 24] = [
@@ -43,10 +43,18 @@ fn holds_telnet(seed: u64) -> bool {
     seed % 2 == 1
 }
 
+/// One in eight begins with a foreign 227, with Telnet material and without.
+fn is_foreign(seed: u64) -> bool {
+    seed / 2 % 8 == 3
+}
+
 fn session_of(seed: u64, telnet: bool) -> Session {
     let mut random = Random::new(seed);
     let setup = setup(&mut random, 2);
-    let talk = Talk::of(&mut random, setup, telnet);
+    let mut talk = Talk::of(&mut random, setup, telnet);
+    if is_foreign(seed) {
+        talk.begins_foreign(&mut random);
+    }
     let mut calls = cut(&mut random, LONGEST_BODY, talk.calls);
     calls.truncate(MOST_ENTRIES - 1);
     Session { setup, calls }
@@ -56,6 +64,9 @@ fn list_of(seed: u64, telnet: bool) -> Session {
     let mut random = Random::new(!seed);
     let setup = setup(&mut random, 8);
     let mut talk = Talk::of(&mut random, setup, telnet);
+    if is_foreign(seed) {
+        talk.begins_foreign(&mut random);
+    }
     if random.percent(5) {
         talk.longest_line(&mut random);
     }
@@ -65,7 +76,7 @@ fn list_of(seed: u64, telnet: bool) -> Session {
         if small && random.percent(40) {
             call.rooms = rooms(&mut random, telnet);
         }
-        if telnet && call.what == What::End && random.percent(60) {
+        if telnet && call.what == What::End && random.percent(75) {
             let room = random.pick(&END_ROOMS);
             call.rooms = Rooms {
                 server: room,
@@ -80,7 +91,7 @@ fn list_of(seed: u64, telnet: bool) -> Session {
     Session { setup, calls }
 }
 
-/// `wrong` of a hundred setups have any flags at all.
+/// `wrong` of a hundred setups have any flags at all, half of the others are strict.
 fn setup(random: &mut Random, wrong: usize) -> Setup {
     let mut client = CLIENT_ADDRESS;
     if random.percent(30) {
@@ -91,6 +102,8 @@ fn setup(random: &mut Random, wrong: usize) -> Setup {
     }
     let flags = if random.percent(wrong) {
         random.octet()
+    } else if random.percent(50) {
+        random.pick(&FLAGS) | STRICT
     } else {
         random.pick(&FLAGS)
     };
@@ -99,10 +112,17 @@ fn setup(random: &mut Random, wrong: usize) -> Setup {
     } else {
         MAPPED_ADDRESS
     };
+    // Half of them are those of the 227s that every session may have.
+    let server = match random.below(10) {
+        0..=4 => PASSIVE_ADDRESS,
+        5..=7 => SERVER_ADDRESS,
+        _ => [0; 4].map(|_: u8| random.octet()),
+    };
     Setup {
         client,
         mapped,
         flags,
+        server,
     }
 }
 
@@ -117,6 +137,7 @@ fn rooms(random: &mut Random, telnet: bool) -> Rooms {
 /// Two that talk to each other, line by line; not always to the point.
 struct Talk {
     client: [u8; 16],
+    server: [u8; 4],
     calls: Vec<Call>,
     /// All that the server has said.
     said: Vec<u8>,
@@ -127,6 +148,7 @@ impl Talk {
     fn of(random: &mut Random, setup: Setup, telnet: bool) -> Talk {
         let mut talk = Talk {
             client: setup.client,
+            server: setup.server,
             calls: Vec::new(),
             said: Vec::new(),
             telnet,
@@ -163,17 +185,17 @@ impl Talk {
             return self.telnet_step(random);
         }
         match random.below(100) {
-            0..=18 => self.exchange(random),
-            19..=35 => self.passive_exchange(random),
-            36..=40 => self.one_sided(random),
-            41..=48 => self.own_answer(random),
+            0..=17 => self.exchange(random),
+            18..=38 => self.passive_exchange(random),
+            39..=42 => self.one_sided(random),
+            43..=48 => self.own_answer(random),
             49..=55 => self.many_commands(random),
             56..=62 => self.auth(random),
             63..=71 => self.long_line(random),
             72..=82 => self.several_lines(random),
             83..=88 => self.line_of_no_form(random),
             89..=91 => self.many_replies(random),
-            92..=95 => self.ends(random),
+            92..=96 => self.ends(random),
             _ => self.says(random.below(2) as u8, b""),
         }
     }
@@ -215,7 +237,7 @@ impl Talk {
             _ => b"EPSV".to_vec(),
         };
         self.says_line(random, CLIENT, &command);
-        let passive = lines::passive(random);
+        let passive = lines::passive(random, self.server);
         match random.below(20) {
             0 | 1 => {
                 let reply = lines::long_reply(random, &passive);
@@ -247,6 +269,30 @@ impl Talk {
             }
             _ => self.says_line(random, SERVER, &passive),
         }
+    }
+
+    /// Puts before all that is said a 227 of another machine that passes in a strict session too.
+    fn begins_foreign(&mut self, random: &mut Random) {
+        let [a, b, c, d] = self.server.map(|octet| octet ^ 1);
+        let low = random.between(1, 255);
+        let mut command = &b"EPSV\r\n"[..];
+        let mut passive = format!("227 x ({a},{b},{c},{d},0,{low})").into_bytes();
+        match random.below(4) {
+            0 => passive = format!("227 x ({a},{b},{c},{d},0,0)").into_bytes(),
+            1 => command = b"PASV\r\n",
+            2 => passive = lines::flowing(random, &passive),
+            _ => passive = [b"214-x\r\n", &passive[..], b"\r\n214 y"].concat(),
+        }
+        if !passive.ends_with(b"\n") {
+            passive.extend(lines::line_end(random));
+        }
+        let first = [
+            (SERVER, &b"220 hi\r\n"[..]),
+            (CLIENT, command),
+            (SERVER, &passive),
+        ];
+        let first = first.map(|(side, octets)| Call::arrival(side, octets));
+        self.calls.splice(..0, first);
     }
 
     /// A reply from its opening code to the same code and a space, with what arrives inside it.
@@ -419,8 +465,8 @@ impl Talk {
             20..=44 => self.unfinished_command(random),
             45..=62 => self.doubled_line(random),
             63..=75 => self.auth_inside_a_command(random),
-            76..=84 => self.end_inside_a_command(random),
-            85..=92 => self.inside_a_reply(random),
+            76..=86 => self.end_inside_a_command(random),
+            87..=92 => self.inside_a_reply(random),
             _ => self.number_1_inside_a_command(random),
         }
     }
@@ -652,6 +698,7 @@ fn with_rests(random: &mut Random, setup: Setup, calls: Vec<Call>, telnet: bool)
 #[cfg(test)]
 mod tests {
     use super::*;
+    use crate::foreign::{self, Foreign};
     use crate::gateways::Seen;
     use crate::multi_line::{self, MultiLine};
     use crate::telnet_cases;
@@ -664,6 +711,10 @@ mod tests {
     struct Reached {
         answers: [bool; 7],
         extended_passive: bool,
+        /// Of a strict session: the server's address, and a foreign one.
+        own_address: bool,
+        foreign_address: bool,
+        foreign: Foreign,
         port_line: bool,
         own_answer: bool,
         passes_at_once: [bool; 2],
@@ -680,13 +731,19 @@ mod tests {
     impl Reached {
         fn of(session: &Session) -> Reached {
             let (mut reference, seen) = Reference::setup(&session.setup);
-            let mut reached = Reached::default();
+            let mut reached = Reached {
+                foreign: Foreign::of(&session.setup),
+                ..Reached::default()
+            };
             reached.answers[usize::from(seen.answer)] = true;
             let mut unfinished = [0; 2];
+            let strict = session.setup.flags & STRICT != 0;
             for call in &session.calls {
                 let seen = reference.call(call);
                 reached.look(call, &seen);
+                reached.own_address = strict && reached.extended_passive;
                 reached.replies.look(call, &seen);
+                reached.foreign.look(call, &seen);
                 if call.direction < 2 {
                     let side = usize::from(call.direction);
                     reached.look_at_line(side, &mut unfinished[side], call, &seen);
@@ -698,6 +755,7 @@ mod tests {
         fn look(&mut self, call: &Call, seen: &Seen) {
             self.answers[usize::from(seen.answer)] = true;
             self.extended_passive |= contains(&seen.to_client, b"229 Entering Extended");
+            self.foreign_address |= contains(&seen.to_client, b"425 Can't open");
             self.port_line |=
                 contains(&seen.to_server, b"PORT ") && !contains(call.octets(), b"PORT ");
             let own = [&b"522 Net"[..], b"504 Com", b"216 NONE", b"216 EP"];
@@ -747,6 +805,11 @@ mod tests {
 
     fn everything_often(all: &[Reached]) {
         often("a 229", all, |one| one.extended_passive);
+        at_times("a 229 in a strict session", all, |one| one.own_address);
+        at_times("a 425", all, |one| one.foreign_address);
+        for case in foreign::CASES {
+            at_times(case, all, |one| one.foreign.met.contains(case));
+        }
         often("an EPRT translated", all, |one| one.port_line);
         often("an own answer", all, |one| one.own_answer);
         often("the client passes at once", all, |one| {
@@ -783,6 +846,37 @@ mod tests {
         everything_often(&all);
         for answer in [2, 3, 4, 5] {
             often(&format!("answer {answer}"), &all, |one| one.answers[answer]);
+        }
+    }
+
+    type Change = fn(&mut Setup);
+
+    /// Whether something else comes of a session that is set up otherwise.
+    fn shows(session: &Session, otherwise: Change) -> bool {
+        let mut other = session.setup;
+        otherwise(&mut other);
+        let (mut one, _) = Reference::setup(&session.setup);
+        let (mut two, _) = Reference::setup(&other);
+        let mut calls = session.calls.iter();
+        calls.any(|call| one.call(call) != two.call(call))
+    }
+
+    /// Whoever forgot the flag, or took another address, would be found out.
+    #[test]
+    fn the_strict_form_shows() {
+        let setups: [(&str, Change); 4] = [
+            ("not strict", |setup| setup.flags &= !STRICT),
+            ("strict", |setup| setup.flags |= STRICT),
+            ("the mapped address", |setup| setup.server = setup.mapped),
+            ("no address", |setup| setup.server = [0; 4]),
+        ];
+        let all: Vec<Session> = (1..=MANY)
+            .flat_map(|seed| [session(seed), list(seed)])
+            .collect();
+        for (name, otherwise) in setups {
+            let count = all.iter().filter(|one| shows(one, otherwise)).count();
+            println!("{name}: {count} of {}", all.len());
+            assert!(count * 150 >= all.len(), "{name}: {count}");
         }
     }
 
@@ -835,6 +929,7 @@ mod tests {
             often(&format!("answer {answer}"), &all, |one| one.answers[answer]);
         }
         at_times("a 229", &all, |one| one.extended_passive);
+        at_times("a 425", &all, |one| one.foreign_address);
         at_times("an own answer", &all, |one| one.own_answer);
     }
 }

@@ -1,22 +1,22 @@
 //! Where a record has its fields: the table in docs/RECORD.md.
 
 pub const LIVE: usize = 0;
-/// Four marks of 0 or 1, `live` first; two places of 0 to 3 and two Telnet states of 0 to 7
+/// Five marks of 0 or 1, `live` first; two places of 0 to 3 and two Telnet states of 0 to 7
 /// follow.
-pub const MARKS: usize = 4;
-pub const CLIENT_PLACE: usize = 4;
-pub const SERVER_PLACE: usize = 5;
-pub const TELNET: [usize; 2] = [6, 7];
+pub const MARKS: usize = 5;
+pub const CLIENT_PLACE: usize = 5;
+pub const SERVER_PLACE: usize = 6;
+pub const TELNET: [usize; 2] = [7, 8];
 /// Numbers of four octets, low octet first.
-pub const OPENING: usize = 8;
-pub const OWED: usize = 12;
-pub const CLIENT_HELD: usize = 16;
-pub const SERVER_HELD: usize = 20;
+pub const OPENING: usize = 9;
+pub const OWED: usize = 13;
+pub const CLIENT_HELD: usize = 17;
+pub const SERVER_HELD: usize = 21;
 /// Taken and written of direction 0, then of direction 1.
-pub const COUNTERS: [usize; 4] = [24, 28, 32, 36];
+pub const COUNTERS: [usize; 4] = [25, 29, 33, 37];
 /// Octets of subnegotiations removed from each direction.
-pub const REMOVED: [usize; 2] = [40, 44];
-pub const KINDS: usize = 68;
+pub const REMOVED: [usize; 2] = [41, 45];
+pub const KINDS: usize = 73;
 
 pub fn put(record: &mut [u8], place: usize, number: u32) {
     record[place..place + 4].copy_from_slice(&number.to_le_bytes());

@@ -4,6 +4,7 @@
 use std::net::Ipv6Addr;
 
 use crate::random::Random;
+use crate::session::PASSIVE_ADDRESS;
 
 /// What a line may end with beside CR LF; a CR alone leaves it unfinished.
 const ENDINGS: [&[u8]; 10] = [
@@ -321,7 +322,7 @@ pub fn reply(random: &mut Random) -> Vec<u8> {
         0..=3 => random.pick(&FINAL_REPLIES).to_vec(),
         4 | 5 => random.pick(&ODD_REPLIES).to_vec(),
         6 => of_no_form(random),
-        7 | 8 => passive(random),
+        7 | 8 => passive(random, PASSIVE_ADDRESS),
         _ => garbage(random),
     }
 }
@@ -338,12 +339,16 @@ pub fn auth_reply(random: &mut Random) -> Vec<u8> {
     random.pick(&AUTH_REPLIES).to_vec()
 }
 
-/// A 227 as servers write it, most of the time.
-pub fn passive(random: &mut Random) -> Vec<u8> {
+/// A 227 as servers write it, most of the time, with the server's address or a foreign one.
+pub fn passive(random: &mut Random, server: [u8; 4]) -> Vec<u8> {
     let mut start = PASSIVE_STARTS[0];
     let mut tail = PASSIVE_TAILS[0];
-    let (high, low) = (random.octet().to_string(), random.octet().to_string());
-    let mut numbers: Vec<&[u8]> = vec![b"192", b"0", b"2", b"31", high.as_bytes(), low.as_bytes()];
+    let [a, b, c, d] = passive_address(random, server);
+    // Leading zeros change no value.
+    let width = random.pick(&[1, 1, 1, 2, 3]);
+    let numbers = [a, b, c, d, random.octet(), random.octet()];
+    let numbers = numbers.map(|number| format!("{number:0width$}"));
+    let mut numbers: Vec<&[u8]> = numbers.iter().map(|number| number.as_bytes()).collect();
     let mut between = &b","[..];
     match random.below(12) {
         0 | 1 => start = random.pick(&PASSIVE_STARTS),
@@ -355,6 +360,18 @@ pub fn passive(random: &mut Random) -> Vec<u8> {
         _ => {}
     }
     [b"227", start, &numbers.join(between), tail].concat()
+}
+
+/// The server's, more often than not, one that differs from it in an octet, or the usual one.
+fn passive_address(random: &mut Random, server: [u8; 4]) -> [u8; 4] {
+    let mut address = server;
+    match random.below(10) {
+        0..=2 => address[random.below(4)] ^= 1 << random.below(8),
+        3 => address.reverse(),
+        4 => address = PASSIVE_ADDRESS,
+        _ => {}
+    }
+    address
 }
 
 pub fn opening_code(random: &mut Random) -> [u8; 3] {
@@ -372,7 +389,7 @@ pub fn inside(random: &mut Random, code: [u8; 3]) -> Vec<u8> {
     let line = match random.below(8) {
         0 | 1 => code.to_vec(),
         2 => [&code[..], b"-again"].concat(),
-        3 => passive(random),
+        3 => passive(random, PASSIVE_ADDRESS),
         _ => random.pick(&INSIDE).to_vec(),
     };
     of_either_length(random, &line)
@@ -445,4 +462,39 @@ pub fn filled(random: &mut Random, start: &[u8]) -> Vec<u8> {
     line.resize(length.saturating_sub(end.len()).max(start.len()), filler);
     line.extend(end);
     line
+}
+
+#[cfg(test)]
+mod tests {
+    use super::*;
+    use crate::session::SERVER_ADDRESS;
+    use reference::made::MadeLine;
+    use reference::replies::extended_passive;
+
+    /// The 227s that have an address, whatever zeros stand before its numbers.
+    fn of_address(lines: &[Vec<u8>], address: [u8; 4]) -> Vec<&Vec<u8>> {
+        let made = |line: &[u8]| extended_passive(line, Some(address));
+        let has = |line: &&Vec<u8>| matches!(made(line), Some(MadeLine::ExtendedPassive(_)));
+        lines.iter().filter(has).collect()
+    }
+
+    /// Own addresses with and without zeros, and foreign ones by each bit alone.
+    #[test]
+    fn passive_addresses_come_near() {
+        let mut random = Random::new(1);
+        let lines = (0..4000).map(|_| passive(&mut random, SERVER_ADDRESS));
+        let lines: Vec<Vec<u8>> = lines.collect();
+        let own = of_address(&lines, SERVER_ADDRESS);
+        let zeros = |line: &&&Vec<u8>| line.windows(5).any(|part| part == b",051,");
+        let zeros = own.iter().filter(zeros).count();
+        assert!(zeros >= 100 && own.len() - zeros >= 100, "{zeros}");
+        for bit in 0..32 {
+            let mut address = SERVER_ADDRESS;
+            address[bit / 8] ^= 1 << (bit % 8);
+            assert!(of_address(&lines, address).len() >= 5, "bit {bit}");
+        }
+        for address in [PASSIVE_ADDRESS, [7, 100, 51, 198]] {
+            assert!(of_address(&lines, address).len() >= 50, "{address:?}");
+        }
+    }
 }

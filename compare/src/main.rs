@@ -8,6 +8,8 @@
 mod checks;
 mod damage;
 mod findings;
+#[cfg(test)]
+mod foreign;
 mod gateways;
 mod generate;
 mod layout;

@@ -15,18 +15,26 @@ pub const CLIENT_ADDRESS: [u8; 16] = [
     0x20, 0x01, 0x0d, 0xb8, 0, 2, 0, 0, 0, 0, 0, 0, 0, 0, 0, 0x31,
 ];
 pub const MAPPED_ADDRESS: [u8; 4] = [192, 0, 2, 31];
+/// The address that the 227s of document 01's exchanges name; it is the mapped one.
+pub const PASSIVE_ADDRESS: [u8; 4] = MAPPED_ADDRESS;
+/// Another, for the server.
+pub const SERVER_ADDRESS: [u8; 4] = [198, 51, 100, 7];
+
+/// Setup flag bit 3: of a 227 only the server's address is taken.
+pub const STRICT: u8 = 8;
 
 #[derive(Clone, Copy, Debug, PartialEq, Eq)]
 pub struct Setup {
     pub client: [u8; 16],
     pub mapped: [u8; 4],
     pub flags: u8,
+    pub server: [u8; 4],
 }
 
 impl Setup {
     /// As a session file and the library have it.
     pub fn octets(&self) -> Vec<u8> {
-        [&self.client[..], &self.mapped, &[self.flags]].concat()
+        [&self.client[..], &self.mapped, &[self.flags], &self.server].concat()
     }
 }
 
@@ -171,6 +179,7 @@ fn setup_of(body: &[u8]) -> Option<Setup> {
         client: body.get(..16)?.try_into().ok()?,
         mapped: body.get(16..20)?.try_into().ok()?,
         flags: *body.get(20)?,
+        server: body.get(21..)?.try_into().ok()?,
     })
 }
 

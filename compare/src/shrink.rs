@@ -1,6 +1,8 @@
 //! The smallest thing that still shows a difference: smaller ones are tried until none shows it.
 
-use crate::session::{Call, Session, Setup, What, CLIENT_ADDRESS, FULL_ROOMS, MAPPED_ADDRESS};
+use crate::session::{
+    Call, Session, Setup, What, CLIENT_ADDRESS, FULL_ROOMS, MAPPED_ADDRESS, SERVER_ADDRESS,
+};
 
 /// How often a smaller one is tried before the smallest so far has to do.
 const MOST_TRIES: usize = 100_000;
@@ -125,7 +127,7 @@ fn capitals(octets: &[u8]) -> Option<Vec<u8>> {
     Some(capital.collect())
 }
 
-/// Fewer flags, then the addresses of document 01.
+/// Fewer flags, then the usual addresses.
 fn smaller_setups(setup: Setup) -> impl Iterator<Item = Setup> {
     let set = (0..8)
         .map(|bit| 1 << bit)
@@ -139,7 +141,13 @@ fn smaller_setups(setup: Setup) -> impl Iterator<Item = Setup> {
         mapped: MAPPED_ADDRESS,
         ..setup
     };
-    fewer.chain((usual != setup).then_some(usual))
+    // It may be the only one that matters.
+    let usual_server = Setup {
+        server: SERVER_ADDRESS,
+        ..setup
+    };
+    let addresses = [usual, usual_server].into_iter();
+    fewer.chain(addresses.filter(move |usual| *usual != setup))
 }
 
 /// The octets of a file.
@@ -204,7 +212,8 @@ mod tests {
             let text = session_text(&small);
             let lines: Vec<&str> = text.lines().collect();
             assert_eq!(lines.len(), 3, "not the smallest:\n{text}");
-            assert_eq!(lines[0], "setup 2001:db8:2::31 192.0.2.31 epsv");
+            let setup = "setup 2001:db8:2::31 192.0.2.31 198.51.100.7 epsv";
+            assert_eq!(lines[0], setup);
             // any final code and its LF: the greeting
             assert_eq!(small.calls[0].octets().len(), 4);
             assert_eq!(lines[2], "client \"EPSV 1\\n\"");

@@ -2,7 +2,7 @@
 //! own, first with room that lacks an octet, then with just the room that it needs.
 
 use crate::gateways::{Gateway, Reference};
-use crate::session::{Call, Rooms, Session, Setup, CLIENT_ADDRESS, MAPPED_ADDRESS};
+use crate::session::{Call, Rooms, Session, Setup, CLIENT_ADDRESS, MAPPED_ADDRESS, SERVER_ADDRESS};
 use crate::telnet::DOUBLED;
 
 const CLIENT: u8 = 0;
@@ -12,6 +12,7 @@ const SETUP: Setup = Setup {
     client: CLIENT_ADDRESS,
     mapped: MAPPED_ADDRESS,
     flags: 7,
+    server: SERVER_ADDRESS,
 };
 
 /// What leads to each: nothing, a 255, WILL, WONT, DO and DONT behind it, a subnegotiation, and a

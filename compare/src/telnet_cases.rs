@@ -98,7 +98,7 @@ pub fn cases_of_rooms() -> Vec<String> {
 /// The cases that a session comes to.
 pub fn met(session: &Session) -> BTreeSet<String> {
     let setup = &session.setup;
-    let (gateway, answer) = Gateway::setup(setup.client, setup.mapped, setup.flags);
+    let (gateway, answer) = Gateway::setup(setup.client, setup.mapped, setup.flags, setup.server);
     let mut follower = Follower {
         gateway,
         ended: [false; 2],

@@ -3,7 +3,7 @@
 
 use std::net::{Ipv4Addr, Ipv6Addr};
 
-use crate::session::{Call, Session, Setup, What, FULL_ROOMS, LONGEST_BODY};
+use crate::session::{Call, Session, Setup, What, FULL_ROOMS, LONGEST_BODY, STRICT};
 
 /// A run this long is written with a star.
 const LONG_RUN: usize = 16;
@@ -18,14 +18,21 @@ pub fn session_text(session: &Session) -> String {
 
 fn setup_text(setup: &Setup) -> String {
     let mut text = format!(
-        "setup {} {}",
+        "setup {} {} {}",
         Ipv6Addr::from(setup.client),
-        Ipv4Addr::from(setup.mapped)
+        Ipv4Addr::from(setup.mapped),
+        Ipv4Addr::from(setup.server)
     );
-    if setup.flags >= 8 {
+    if setup.flags >= 16 {
         return format!("{text} flags {}", setup.flags);
     }
-    for (bit, name) in [(1, " epsv"), (2, " eprt-supported"), (4, " eprt")] {
+    let names = [
+        (1, " epsv"),
+        (2, " eprt-supported"),
+        (4, " eprt"),
+        (STRICT, " strict"),
+    ];
+    for (bit, name) in names {
         if setup.flags & bit != 0 {
             text += name;
         }
@@ -102,7 +109,7 @@ fn escaped(octet: u8) -> String {
 mod tests {
     use super::*;
     use crate::generate;
-    use crate::session::{Rooms, CLIENT_ADDRESS, MAPPED_ADDRESS};
+    use crate::session::{Rooms, CLIENT_ADDRESS, MAPPED_ADDRESS, SERVER_ADDRESS};
     use std::io::Write;
     use std::process::{Command, Stdio};
 
@@ -141,6 +148,7 @@ mod tests {
                 client: [0; 16],
                 mapped: MAPPED_ADDRESS,
                 flags: 255,
+                server: [0; 4],
             },
             calls: vec![
                 Call::arrival(0, &every),
@@ -166,13 +174,15 @@ mod tests {
             setup: Setup {
                 client: CLIENT_ADDRESS,
                 mapped: MAPPED_ADDRESS,
-                flags: 1,
+                flags: 9,
+                server: SERVER_ADDRESS,
             },
             calls: vec![small, Call::end(7), Call::arrival(1, &[b'x'; 3000])],
         };
         let text = session_text(&session);
         let lines: Vec<&str> = text.lines().collect();
-        assert_eq!(lines[0], "setup 2001:db8:2::31 192.0.2.31 epsv");
+        let setup = "setup 2001:db8:2::31 192.0.2.31 198.51.100.7 epsv strict";
+        assert_eq!(lines[0], setup);
         let said = "client \"EPSV\\r\\n\"  # room for 5 to the server, 0 to the client";
         assert_eq!(lines[1], said);
         assert_eq!(lines[2], "# direction 7 end");

@@ -1,9 +1,9 @@
 //! A list of calls in octets and its results in octets, to set two gateways side by side.
 //!
-//! Script: 21 octets of setup (the client's address, its mapped address, the flags), then calls:
-//! kind (0 arrival, 1 end), direction, server room (2 octets, high first), client room (2),
-//! length (2), and that many octets, which an end does not look at. A call that is cut short or
-//! of another kind ends the script.
+//! Script: 25 octets of setup (the client's address, its mapped address, the flags, the server's
+//! address), then calls: kind (0 arrival, 1 end), direction, server room (2 octets, high first),
+//! client room (2), length (2), and that many octets, which an end does not look at. A call that is
+//! cut short or of another kind ends the script.
 //!
 //! Result: the answer of the setup, then per call its answer, and in 4 octets each, high first,
 //! the octets taken, written to the server and written to the client; those written, first the
@@ -55,7 +55,8 @@ impl<'script> Script<'script> {
         let client = self.array()?;
         let mapped = self.array()?;
         let flags = self.octet()?;
-        Some(Gateway::setup(client, mapped, flags))
+        let server = self.array()?;
+        Some(Gateway::setup(client, mapped, flags, server))
     }
 
     fn call(&mut self) -> Option<Call<'script>> {

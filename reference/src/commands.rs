@@ -16,7 +16,8 @@ impl Switches {
     const EPRT: u8 = 4;
 
     /// "Bit 0 EPSV translation on, bit 1 EPRT supported, bit 2 EPRT translation on, other bits
-    /// zero." Refused are "an undefined flag bit, or EPRT on and not supported".
+    /// zero". Bit 3, the strict form, is no switch: whoever calls has cleared it. Refused are "an
+    /// undefined flag bit, or EPRT on and not supported".
     pub fn of_flags(flags: u8) -> Option<Switches> {
         let switches = Switches(flags);
         let undefined = flags & !(Switches::EPSV | Switches::EPRT_SUPPORTED | Switches::EPRT) != 0;

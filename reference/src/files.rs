@@ -9,7 +9,7 @@ const WRONG_TABLE: u8 = 8;
 
 const MOST_ENTRIES: usize = 48;
 const LONGEST_BODY: usize = 1024;
-const SETUP_LENGTH: usize = 21;
+const SETUP_LENGTH: usize = 25;
 
 /// "The replay uses 16,384 octets for each out buffer, emptied per entry."
 const ROOM: usize = 16384;
@@ -108,13 +108,15 @@ fn replay(entries: &[Entry]) -> String {
     report
 }
 
-/// A setup's 21 octets: the client's address, its mapped address, the flags.
+/// A setup's 25 octets: the client's address, its mapped address, the flags, the server's address.
 fn setup(body: &[u8]) -> (Gateway, u8) {
     let mut client = [0; 16];
     let mut mapped = [0; 4];
+    let mut server = [0; 4];
     client.copy_from_slice(&body[..16]);
     mapped.copy_from_slice(&body[16..20]);
-    Gateway::setup(client, mapped, body[20])
+    server.copy_from_slice(&body[21..]);
+    Gateway::setup(client, mapped, body[20], server)
 }
 
 /// "Number, taken (0 for setup and ends), answer, octets to the server, octets to the client."

@@ -12,6 +12,9 @@ pub const CLIENT: u8 = 0;
 /// Direction of what the server sends.
 pub const SERVER: u8 = 1;
 
+/// Setup flag bit 3: the strict form, in which a foreign address in a 227 is refused.
+const STRICT: u8 = 8;
+
 /// The numbers of the table of answers.
 pub const DONE: u8 = 0;
 pub const QUEUE_FULL: u8 = 1;
@@ -49,11 +52,13 @@ pub struct Gateway {
 }
 
 impl Gateway {
-    /// Begins a session. The answer is 0, or 5 for flags that are none.
-    pub fn setup(client: [u8; 16], mapped: [u8; 4], flags: u8) -> (Gateway, u8) {
+    /// Begins a session. The answer is 0, or 5 for flags that are none. The server's address is
+    /// looked at with flag bit 3 alone.
+    pub fn setup(client: [u8; 16], mapped: [u8; 4], flags: u8, server: [u8; 4]) -> (Gateway, u8) {
         let addresses = Addresses { client, mapped };
-        let switches = Switches::of_flags(flags);
-        let session = switches.map(|switches| Session::fresh(addresses, switches));
+        let only = (flags & STRICT != 0).then_some(server);
+        let switches = Switches::of_flags(flags & !STRICT);
+        let session = switches.map(|switches| Session::fresh(addresses, switches, only));
         let answer = if session.is_some() { DONE } else { BAD_FLAGS };
         let counters = [Counter::default(); 2];
         (Gateway { session, counters }, answer)
@@ -175,10 +180,10 @@ struct Session {
 }
 
 impl Session {
-    fn fresh(addresses: Addresses, switches: Switches) -> Session {
+    fn fresh(addresses: Addresses, switches: Switches, only: Option<[u8; 4]>) -> Session {
         Session {
             client: Client::fresh(addresses, switches),
-            server: Server::fresh(),
+            server: Server::fresh(only),
         }
     }
 

@@ -7,6 +7,7 @@ const PASV: &[u8] = b"PASV\r\n";
 const PORT: &[u8] = b"PORT ";
 const EXTENDED_PASSIVE: &[u8] = b"229 Entering Extended Passive Mode (|||";
 const EXTENDED_PASSIVE_END: &[u8] = b"|)\r\n";
+const NO_CONNECTION: &[u8] = b"425 Can't open data connection.\r\n";
 
 #[derive(Clone, Copy, Debug, PartialEq, Eq)]
 pub enum MadeLine {
@@ -15,6 +16,8 @@ pub enum MadeLine {
     Port([u8; 6]),
     /// "`229 Entering Extended Passive Mode (|||port|)`."
     ExtendedPassive(u16),
+    /// "`425 Can't open data connection.` instead of the 229."
+    NoConnection,
 }
 
 impl MadeLine {
@@ -29,6 +32,7 @@ impl MadeLine {
             MadeLine::ExtendedPassive(port) => {
                 EXTENDED_PASSIVE.len() + digits(port) + EXTENDED_PASSIVE_END.len()
             }
+            MadeLine::NoConnection => NO_CONNECTION.len(),
         }
     }
 
@@ -49,6 +53,7 @@ impl MadeLine {
                 output.write_number(port);
                 output.write(EXTENDED_PASSIVE_END);
             }
+            MadeLine::NoConnection => output.write(NO_CONNECTION),
         }
     }
 
@@ -76,6 +81,10 @@ mod tests {
     #[test]
     fn lines_are_as_long_as_they_say() {
         check(MadeLine::Pasv, "PASV\r\n");
+        check(
+            MadeLine::NoConnection,
+            "425 Can't open data connection.\r\n",
+        );
         for port in 0..=u16::MAX {
             let [high, low] = port.to_be_bytes();
             check(

@@ -1,4 +1,4 @@
-//! Server lines: which of them open, hold and end a reply, and the 229 that a readable 227
+//! Server lines: which of them open, hold and end a reply, and the 229 or 425 that a readable 227
 //! becomes.
 
 use crate::lines::octet_number;
@@ -87,18 +87,23 @@ impl Role {
     }
 }
 
-/// The 229 that a 227 becomes, if its port can be read and is not 0.
-pub fn extended_passive(content: &[u8]) -> Option<MadeLine> {
-    let port = passive_port(content).filter(|&port| port != 0)?;
-    Some(MadeLine::ExtendedPassive(port))
+/// What a 227 becomes, if it can be read and its port, the fifth number times 256 plus the sixth,
+/// is not 0: a 229, or a 425 where its address is not the only one that is taken. Without such a
+/// one "the address is ignored".
+pub fn extended_passive(content: &[u8], only: Option<[u8; 4]>) -> Option<MadeLine> {
+    let [a, b, c, d, high, low] = passive_numbers(content)?;
+    match u16::from_be_bytes([high, low]) {
+        0 => None,
+        _ if only.is_some_and(|only| only != [a, b, c, d]) => Some(MadeLine::NoConnection),
+        port => Some(MadeLine::ExtendedPassive(port)),
+    }
 }
 
-/// The port is the fifth number times 256 plus the sixth. "The address is ignored."
-fn passive_port(content: &[u8]) -> Option<u16> {
+/// "Six numbers from the first digit after the code's space."
+fn passive_numbers(content: &[u8]) -> Option<[u8; 6]> {
     let text = content.strip_prefix(b"227 ")?;
     let start = text.iter().position(u8::is_ascii_digit)?;
-    let [_, _, _, _, high, low] = six_numbers(&text[start..])?;
-    Some(u16::from_be_bytes([high, low]))
+    six_numbers(&text[start..])
 }
 
 /// "Each a whole run of 1 to 3 digits, 0 to 255, single commas between; what follows the sixth

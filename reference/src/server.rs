@@ -15,6 +15,8 @@ pub struct Server {
     owed: Queue,
     /// "The record keeps the opening code" of the reply that is unfinished.
     unfinished: Option<Code>,
+    /// In the strict form the only address that a 227 may have: the server's.
+    only: Option<[u8; 4]>,
 }
 
 /// What the LF of a server line does to the reply and to the queue.
@@ -28,11 +30,12 @@ struct LineEnd {
 }
 
 impl Server {
-    pub fn fresh() -> Server {
+    pub fn fresh(only: Option<[u8; 4]>) -> Server {
         Server {
             side: Side::fresh(),
             owed: Queue::fresh(),
             unfinished: None,
+            only,
         }
     }
 
@@ -88,14 +91,16 @@ impl Server {
     }
 
     /// The LF of a line judged whole, of which `last` are the last octets before it. A 227
-    /// becomes a 229 if it answers a translated EPSV "and no earlier line belongs to its reply":
-    /// none is unfinished. "All other server lines pass."
+    /// becomes a 229, or a 425, if it answers a translated EPSV "and no earlier line belongs to its
+    /// reply": none is unfinished. "All other server lines pass."
     fn finish_line(&mut self, last: &[u8], to_client: &mut Output) -> Step {
         let text = self.side.join(last);
         let content = content(text.octets);
         let end = line_end(&self.owed, Role::of(content, self.unfinished));
         let made = match end.removed {
-            Some(Owed::TranslatedEpsv) if self.unfinished.is_none() => extended_passive(content),
+            Some(Owed::TranslatedEpsv) if self.unfinished.is_none() => {
+                extended_passive(content, self.only)
+            }
             _ => None,
         };
         let given = made.map_or(Given::Line, Given::Made);

@@ -61,7 +61,7 @@ use Rattle.steps.specs.Takes.{Took, unlessStopped, stopOf, takes}
 use Rattle.session.specs.Calls.{stateOf, refused, unlessRefused, outcome, arrived}
 use Rattle.session.specs.Bounds.{Shaped, WritesAtMost, OctetBound, Progress}
 use Rattle.steps.proofs.Turns.{place-owed}
-use Rattle.answers.proofs.Lengths.{isOctet, judged-most, judged-held, port-line, pasv-line, passive-line, head-answers, answers-auth, passed-within, lf-single, telnet-most, unfinished-most}
+use Rattle.answers.proofs.Lengths.{isOctet, judged-most, judged-held, port-line, pasv-line, passive-line, cannot-open-line, head-answers, answers-auth, passed-within, lf-single, telnet-most, unfinished-most}
 use Rattle.answers.specs.Table.{Sound}
 use Rattle.answers.proofs.Refusals.{Refusal, unknown, bad, over, accepted, sound-words, refusal-of}
 use Rattle.answers.proofs.Ports.{
@@ -73,6 +73,7 @@ use Rattle.answers.proofs.Ports.{
   auth,
   command-small,
   SmallReply,
+  named,
   unreadable,
   reply-small,
 }
@@ -140,9 +141,17 @@ module _ (f : Fixed) (size : length (f .mapped) ≡ ipv4Width) (octets : every i
 
   -- ---- a server line judged whole
 
-  passive-reply-line : (r : PassiveReply) → SmallReply r → Line (passiveEffect r)
-  unfolding passiveEffect givesText
-  passive-reply-line r (port p small) = record { most = omega (arith, passive-line p small) }
+  refused-line : Line Gives.CannotOpen
+  unfolding givesText
+  refused-line = record { most = omega (arith, cannot-open-line) }
+
+  extended-line : (p : ℕ) → p ≤ 65535 → Line (Gives.ExtendedPassive p)
+  unfolding givesText
+  extended-line p small = record { most = omega (arith, passive-line p small) }
+
+  passive-reply-line : (r : PassiveReply) → SmallReply r → Line (passiveEffect f r)
+  unfolding passiveEffect
+  passive-reply-line r (named a b c d p small) = either Line _ _ _ refused-line (extended-line p small)
   passive-reply-line r unreadable = held-line
 
   kind-line : (k : Kind) (c : List ℕ) → Line (kindEffect f k c)

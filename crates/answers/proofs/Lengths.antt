@@ -10,7 +10,7 @@ use borrow.Author.Tests.{leb-true, le-leb, eqb-true}
 use Rattle.rules.specs.Octets.{lf, every, choose}
 use Rattle.rules.specs.Lines.{judged, mostHeld, passed}
 use Rattle.rules.specs.Commands.{portLine, pasvLine}
-use Rattle.rules.specs.Replies.{extendedPassiveLine, headAnswers, authAtHead}
+use Rattle.rules.specs.Replies.{extendedPassiveLine, cannotOpenLine, headAnswers, authAtHead}
 use Rattle.rules.specs.Telnet.{answerOf, commandOf, unfinishedIn}
 use Rattle.rules.specs.declared.Telnet.{Telnet}
 use Rattle.rules.specs.declared.Does.{Does}
@@ -63,6 +63,10 @@ pasv-line = omega (arith, judged-most)
 
 pub passive-line : (p : ℕ) → p ≤ 65535 → length (extendedPassiveLine p) ≤ judged
 passive-line p small = omega (arith, judged-most, extended-passive-most p (omega arith))
+
+pub cannot-open-line : length cannotOpenLine ≤ judged
+unfolding cannotOpenLine
+cannot-open-line = omega (arith, judged-most)
 
 -- the gateway's own answers
 pub head-answers : (ks : List Kind) → length (headAnswers ks) ≤ longestAnswer * length ks

@@ -23,7 +23,7 @@ use Rattle.rules.specs.Commands.{
   wordCommand,
   command,
 }
-use Rattle.rules.specs.Replies.{afterComma, numbers, passivePort, passiveReply}
+use Rattle.rules.specs.Replies.{afterComma, numbers, passiveAt, passiveReply}
 use Rattle.rules.specs.declared.Switches.{Switches}
 use Rattle.rules.specs.declared.CommandWord.{CommandWord}
 use Rattle.rules.specs.declared.OwnAnswer.{OwnAnswer}
@@ -143,15 +143,15 @@ numbers-octets (suc k) t =
     both-octets _ _ (number-octet (front digit t)) (either Octets _ _ _ (numbers-octets k (drop 1 (after digit t))) nothing)
 
 pub data SmallReply : PassiveReply → Type 0 where
-  port : (p : ℕ) → p ≤ 65535 → SmallReply (PassiveReply.Port p)
+  named : (a b c d p : ℕ) → p ≤ 65535 → SmallReply (PassiveReply.At a b c d p)
   unreadable : SmallReply PassiveReply.Unreadable
 
-port-small : (o : Option (List ℕ)) → Octets o → SmallReply (passivePort o)
-unfolding passivePort
+port-small : (o : Option (List ℕ)) → Octets o → SmallReply (passiveAt o)
+unfolding passiveAt
 port-small none p = unreadable
 port-small (some l) (octets ns e) =
     either SmallReply _ _ _ unreadable
-    (port (getD ns 4 0 * 256 + getD ns 5 0) (omega (arith, octet-at ns 4 e, octet-at ns 5 e)))
+    (named _ _ _ _ (getD ns 4 0 * 256 + getD ns 5 0) (omega (arith, octet-at ns 4 e, octet-at ns 5 e)))
 
 pub reply-small : (c : List ℕ) → SmallReply (passiveReply c)
 unfolding passiveReply

@@ -311,21 +311,21 @@ by-call c o ofEnd = unless (endResult c) (end-low (c .session) (c .serverRoom) (
 
 -- ---- setup
 
-bad-words : (flags : ℕ) (high on supported : Bool) → leb (2 ^ 3) flags ≡ high → eprtOn flags ≡ on → eprtSupported flags ≡ supported
+bad-words : (flags : ℕ) (high on supported : Bool) → leb (2 ^ 4) flags ≡ high → eprtOn flags ≡ on → eprtSupported flags ≡ supported
     → (high || (on && not supported) ≡ true) ↔ BadFlags flags
-bad-words flags true on supported p q r = ((λ e. inl (leb-true 8 flags p)), (λ w. refl))
+bad-words flags true on supported p q r = ((λ e. inl (leb-true 16 flags p)), (λ w. refl))
 bad-words flags false true false p q r = ((λ e. inr (q, r)), (λ w. refl))
 bad-words flags false true true p q r = ((λ e. absurd (true≢false (sym e))), fine)
   where
     fine : BadFlags flags → false ≡ true
-    fine (inl h) = absurd (omega (arith, leb-false 8 flags p))
+    fine (inl h) = absurd (omega (arith, leb-false 16 flags p))
     fine (inr w) = sym (w .1) ∙ r
 bad-words flags false false supported p q r = ((λ e. absurd (true≢false (sym e))), fine)
   where
     fine : BadFlags flags → false ≡ true
-    fine (inl h) = absurd (omega (arith, leb-false 8 flags p))
+    fine (inl h) = absurd (omega (arith, leb-false 16 flags p))
     fine (inr w) = sym q ∙ w .0
 
 pub flags-words : (flags : ℕ) → (badFlags flags ≡ true) ↔ BadFlags flags
 unfolding badFlags
-flags-words flags = bad-words flags (leb (2 ^ 3) flags) (eprtOn flags) (eprtSupported flags) refl refl refl
+flags-words flags = bad-words flags (leb (2 ^ 4) flags) (eprtOn flags) (eprtSupported flags) refl refl refl

@@ -28,7 +28,7 @@ pub record Recomputed : Type 0 where
 
 -- a fresh session: its addresses are zeros, and only EPSV translation is on
 abbrev pub fresh : Session
-fresh = freshSession (record { client = replicate ipv6Width 0; mapped = replicate ipv4Width 0; flags = 1 })
+fresh = freshSession (record { client = replicate ipv6Width 0; mapped = replicate ipv4Width 0; flags = 1; server = replicate ipv4Width 0 })
 
 -- the room in each buffer: enough for what one octet can write
 abbrev pub enough : ℕ

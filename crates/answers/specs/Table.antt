@@ -195,6 +195,6 @@ pub record Ends (c : Situation) (o : Outcome) : Type 0 where
 
 -- ---- setup
 
--- 5: "an undefined flag bit, or EPRT on and not supported"
+-- 5: "an undefined flag bit, or EPRT on and not supported", where by request 4 of document 02 bit 3 is defined
 abbrev pub BadFlags : ℕ → Type 0
-BadFlags flags = (2 ^ 3 ≤ flags) ⊎ ((eprtOn flags ≡ true) × (eprtSupported flags ≡ false))
+BadFlags flags = (2 ^ 4 ≤ flags) ⊎ ((eprtOn flags ≡ true) × (eprtSupported flags ≡ false))

@@ -251,12 +251,12 @@ module _ (f : Fixed) (d : Side) (l : List ℕ) (s₀ : State) (from to : List �
 
 -- ---- an arrival on any state
 
-module _ (supported : Bool) (d : Side) (c : Control) (lent l : List ℕ) where
+module _ (supported strict : Bool) (d : Side) (c : Control) (lent l : List ℕ) where
   abbrev s : State
   s = stateLent c lent
 
   pub took-all : (m n : ℕ) → holdable c ≡ true → length lent ≡ lentSize
-      → tookIn supported d c lent l m n ≡ takes (fixedLent supported lent) d s l m n
+      → tookIn supported strict d c lent l m n ≡ takes (fixedLent supported strict lent) d s l m n
   unfolding tookIn choose
   took-all m n h g = rw (h, g)
 
@@ -270,7 +270,7 @@ module _ (supported : Bool) (d : Side) (c : Control) (lent l : List ℕ) where
 
   -- what the function returns where the counts, or the number of octets lent, can't be
   abbrev None : Type 0
-  None = (from to : List ℕ) → Given (tookIn supported d c lent l (length from) (length to)) from to Answer.BadRecord 0
+  None = (from to : List ℕ) → Given (tookIn supported strict d c lent l (length from) (length to)) from to Answer.BadRecord 0
       (coreFrom s from to (record { server = 0; client = 0 }))
 
   pub took-none : holdable c ≡ false → None
@@ -278,7 +278,7 @@ module _ (supported : Bool) (d : Side) (c : Control) (lent l : List ℕ) where
   took-none h from to = took-nothing from to _ (rw h)
 
   by-both : (m n : ℕ) (b : Bool) → eqb (length lent) lentSize ≡ false
-      → choose (b && eqb (length lent) lentSize) (takes (fixedLent supported lent) d s l m n) (tookNothing Answer.BadRecord s) ≡ tookNothing Answer.BadRecord s
+      → choose (b && eqb (length lent) lentSize) (takes (fixedLent supported strict lent) d s l m n) (tookNothing Answer.BadRecord s) ≡ tookNothing Answer.BadRecord s
   unfolding choose
   by-both m n true e = rw e
   by-both m n false e = refl

@@ -83,7 +83,7 @@ module _ {l : List ℕ} {i held owed : ℕ} {lent out : List ℕ} {at : ℕ} {r 
   pub said-inside : SaidPlain l i held owed lent out at r lent′ out′ → r .taken ≤ length l
   said-inside s =
       let start : Direction = record { place = Place.Holding; held = 0 } in
-      s .ran (record { client = []; mapped = []; supported = false })
+      s .ran (record { client = []; mapped = []; server = []; supported = false; strict = false })
       (record {
         switches = record { epsv = false; eprt = false };
         client = start;

@@ -41,6 +41,7 @@ pub struct Taken {
 // is taken.
 pub fn take(
     supported: bool,
+    strict: bool,
     from_client: bool,
     start: Control,
     octets: &[u8],
@@ -51,7 +52,7 @@ pub fn take(
     ensures given { λ r.
         let server = now («to_server» .entry) in
         let client = now («to_client» .entry) in
-        let t = tookIn supported (sideIf «from_client») start (now (lent .entry)) (now (octets .entry))
+        let t = tookIn supported strict (sideIf «from_client») start (now (lent .entry)) (now (octets .entry))
         (length server) (length client) in
         let after = coreLent (r .control) (now (lent .exit)) (now («to_server» .exit)) (now («to_client» .exit))
         (r .written) in
@@ -67,6 +68,7 @@ pub fn take(
     }
     take_each(
         supported,
+        strict,
         from_client,
         start,
         octets,
@@ -100,6 +102,7 @@ fn nothing_taken(control: Control) -> Taken
 // Plain lines and a run behind them, and the octet behind those, again and again, where the counts can be held.
 fn take_each(
     supported: bool,
+    strict: bool,
     from_client: bool,
     start: Control,
     octets: &[u8],
@@ -112,7 +115,7 @@ fn take_each(
     ensures given { λ r.
         let server = now («to_server» .entry) in
         let client = now («to_client» .entry) in
-        let fixed = fixedLent supported (now (lent .entry)) in
+        let fixed = fixedLent supported strict (now (lent .entry)) in
         let t = takes fixed (sideIf «from_client») (stateLent start (now (lent .entry))) (now (octets .entry))
         (length server) (length client) in
         let after = coreLent (r .control) (now (lent .exit)) (now («to_server» .exit)) (now («to_client» .exit))
@@ -144,6 +147,7 @@ fn take_each(
         if i < octets.len() {
             let o = next_octet(
                 supported,
+                strict,
                 from_client,
                 control,
                 octets[i],

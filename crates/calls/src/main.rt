@@ -1,6 +1,6 @@
 // Runs the scripts of its standard input, each preceded by its length in four octets, high first, and writes the
 // results of each, preceded by theirs.
-// A script is a setup of 21 octets and then calls: kind (0 arrival, 1 end), direction, server room, client room and
+// A script is a setup of 25 octets and then calls: kind (0 arrival, 1 end), direction, server room, client room and
 // length in two octets each, and that many octets.
 // A call's result is its answer, the octets taken, written to the server and written to the client in four octets
 // each, those written, and the offsets.

@@ -1,12 +1,12 @@
 -- What a server octet does on its own side: what it gives, where the direction stands then, and what is removed.
 use mathlib.Core.Bool.{Bool, true, false}
-use mathlib.Core.List.{List}
+use mathlib.Core.List.{List, [], _∷_}
 use Prim.Native.Nat.{ℕ, _+_}
 use lib.Dec.{eqb, ltb}
 use lib.ListN.{take}
 use Rattle.rules.specs.Octets.{lf, choose}
 use Rattle.rules.specs.Lines.{judged, content}
-use Rattle.rules.specs.Replies.{isOpen, replyLine, openingAfter, passiveReply}
+use Rattle.rules.specs.Replies.{isOpen, replyLine, openingAfter, passiveReply, foreign}
 use Rattle.rules.specs.declared.Fixed.{Fixed}
 use Rattle.rules.specs.declared.Kind.{Kind}
 use Rattle.rules.specs.declared.ReplyLine.{ReplyLine}
@@ -42,16 +42,16 @@ lineRemoves ReplyLine.Preliminary o = 0
 lineRemoves ReplyLine.Final o = headRemoved o
 lineRemoves ReplyLine.StandsAlone o = 0
 
--- "the line becomes `229 Entering Extended Passive Mode (|||port|)`. Otherwise it passes"
-unfoldable pub passiveEffect : PassiveReply → Gives
-passiveEffect (PassiveReply.Port p) = Gives.ExtendedPassive p
-passiveEffect PassiveReply.Unreadable = Gives.HeldAndOctet
+-- "the line becomes `229 ..`. Otherwise it passes"; by request 4 of document 02, "`425 ..` instead of the 229"
+unfoldable pub passiveEffect : Fixed → PassiveReply → Gives
+passiveEffect f (PassiveReply.At a b c d p) =
+    choose (foreign f (a ∷ b ∷ c ∷ d ∷ [])) Gives.CannotOpen (Gives.ExtendedPassive p)
+passiveEffect f PassiveReply.Unreadable = Gives.HeldAndOctet
 
--- the 227 that answers a translated EPSV is read, any other line passes; by what the setup fixes, of which document 01
--- asks nothing here
+-- the 227 that answers a translated EPSV is read, any other line passes; by what the setup fixes
 unfoldable pub kindEffect : Fixed → Kind → List ℕ → Gives
 kindEffect f Kind.Plain c = Gives.HeldAndOctet
-kindEffect f Kind.TranslatedEpsv c = passiveEffect (passiveReply c)
+kindEffect f Kind.TranslatedEpsv c = passiveEffect f (passiveReply c)
 kindEffect f (Kind.Own a) c = Gives.HeldAndOctet
 kindEffect f Kind.Auth c = Gives.HeldAndOctet
 

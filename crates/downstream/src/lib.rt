@@ -3,7 +3,7 @@
 ghost use mathlib.Core.Path.{_≡_};
 ghost use lib.Dec.{eqb};
 ghost use Rattle.rules.specs.Octets.{lf, choose};
-ghost use Rattle.rules.specs.Replies.{isOpen, passiveReply};
+ghost use Rattle.rules.specs.Replies.{isOpen, passiveReply, foreign};
 ghost use Rattle.places.specs.Places.{at as directionAt};
 ghost use Rattle.downstream.specs.Downstream.{kindRemoved, headRemoved, lineRemoves, passiveEffect, kindEffect};
 ghost use Rattle.downstream.specs.Downstream.{headEffect, lineGives, wholeLine, flowingLine, replyOctet};
@@ -16,6 +16,7 @@ use places::first_octets;
 use places::is_held;
 use queue::Owes;
 use rules::Fixed;
+use rules::IPV4;
 use rules::Kind;
 use rules::PassiveReply;
 use rules::ReplyLine;
@@ -68,20 +69,50 @@ fn kind_gives(fixed: Fixed, kind: Kind, content: &[u8]) -> Gives
 {
     match kind {
         Kind::Plain => Gives::HeldAndOctet,
-        Kind::TranslatedEpsv => passive_gives(content),
+        Kind::TranslatedEpsv => passive_gives(fixed, content),
         Kind::Own(_) => Gives::HeldAndOctet,
         Kind::Auth => Gives::HeldAndOctet,
     }
 }
 
-// The 227 that answers a translated EPSV.
-fn passive_gives(content: &[u8]) -> Gives
-    ensures { λ r. ⌜ r ≡ passiveEffect (passiveReply (now (content .entry))) ⌝ }
+// The 227 that answers a translated EPSV: in the strict form one that names another address than the server's is
+// refused.
+fn passive_gives(fixed: Fixed, content: &[u8]) -> Gives
+    ensures { λ r. ⌜ r ≡ passiveEffect fixed (passiveReply (now (content .entry))) ⌝ }
 {
     match replies::passive_reply(content) {
-        PassiveReply::Port(port) => Gives::ExtendedPassive(port),
+        PassiveReply::At(a, b, c, d, port) => named_gives(is_foreign(fixed, [a, b, c, d]), port),
         PassiveReply::Unreadable => Gives::HeldAndOctet,
     }
+}
+
+fn named_gives(refused: bool, port: u16) -> Gives
+    ensures { λ r. ⌜ r ≡ choose refused Gives.CannotOpen (Gives.ExtendedPassive port) ⌝ }
+{
+    if refused {
+        return Gives::CannotOpen;
+    }
+    Gives::ExtendedPassive(port)
+}
+
+// Whether an address is one to refuse.
+fn is_foreign(fixed: Fixed, address: [u8; IPV4]) -> bool
+    ensures { λ r. ⌜ r ≡ foreign fixed address ⌝ }
+{
+    if !fixed.strict {
+        return false;
+    }
+    let server = fixed.server;
+    if address[0] != server[0] {
+        return true;
+    }
+    if address[1] != server[1] {
+        return true;
+    }
+    if address[2] != server[2] {
+        return true;
+    }
+    address[3] != server[3]
 }
 
 fn head_gives(fixed: Fixed, first: Owes, content: &[u8]) -> Gives

@@ -39,18 +39,18 @@ use Rattle.image.specs.Lent.{endedOn, imageAfter}
 use Rattle.fashlemor.specs.Carried.{Holds, Begun, Carried, EndKeeps}
 use Rattle.fashlemor.proofs.Calls.{kept, written-back}
 
-sizes : (s : Session) → Shaped s → length (s .fixed .client) ≡ ipv6Width → Sized s
+sizes : (s : Session) → Shaped s → length (s .fixed .client) ≡ ipv6Width → length (s .fixed .server) ≡ ipv4Width → Sized s
 unfolding judged
-sizes s h e = record { client = e; mapped = h .mapped; kinds = h .kinds; command = h .command; reply = h .reply }
+sizes s h e g = record { client = e; mapped = h .mapped; server = g; kinds = h .kinds; command = h .command; reply = h .reply }
 
 numbers : (s : Session) → Shaped s → Numbered (s .control)
 numbers s h = record { opening = h .opening; up = h .removedUp; down = h .removedDown }
 
 -- a record that is put into memory with room for it is held there
-put-holds : (image : List ℕ) (s : Session) → imageSize ≤ length image → Shaped s → length (s .fixed .client) ≡ ipv6Width → Wrapped (s .up) → Wrapped (s .down)
+put-holds : (image : List ℕ) (s : Session) → imageSize ≤ length image → Shaped s → length (s .fixed .client) ≡ ipv6Width → length (s .fixed .server) ≡ ipv4Width → Wrapped (s .up) → Wrapped (s .down)
     → Sound s → Holds (putAt image 0 (imageOf s)) s
-put-holds image s room shape e up down w =
-    let size = sizes s shape e in
+put-holds image s room shape e g up down w =
+    let size = sizes s shape e g in
     let long = image-length s size in
     let fits : length (imageOf s) ≤ length image = omega arith in
     record {
@@ -58,6 +58,7 @@ put-holds image s room shape e up down w =
       read = rw (front-put image (imageOf s) fits) (read-back s (drop (length (imageOf s)) image) size (numbers s shape) up down (sound-words s .1 w));
       shaped = shape;
       client = e;
+      server = g;
       up = up;
       down = down;
       sound = w;
@@ -109,6 +110,10 @@ fresh-client : (su : Setup) → freshSession su .fixed .client ≡ su .client
 unfolding freshSession
 fresh-client su = refl
 
+fresh-server : (su : Setup) → freshSession su .fixed .server ≡ su .server
+unfolding freshSession
+fresh-server su = refl
+
 pub good-flags : (su : Setup) → prepared su .answer ≡ Answer.Done → BadFlags (su .flags) → ⊥
 good-flags su e b = omega (arith, five su .1 b, ap answerNumber e)
 
@@ -130,11 +135,12 @@ begun image octets room each done =
     let z = setup-zero su (good-flags su (rw p at done)) in
     let client : length (su .client) ≡ ipv6Width = length-take-le ipv6Width octets (omega arith) in
     let mapped : length (su .mapped) ≡ ipv4Width = length-take-le ipv4Width (drop ipv6Width octets) (omega (arith, length-drop ipv6Width octets)) in
+    let server : length (su .server) ≡ ipv4Width = length-take-le ipv4Width (drop (ipv6Width + ipv4Width + 1) octets) (omega (arith, length-drop (ipv6Width + ipv4Width + 1) octets)) in
     let k = fresh-kept su mapped
     (octets-all (su .mapped)
     (λ j less. rw (getD-take ipv4Width (drop ipv6Width octets) j 0 (omega (arith, mapped)), getD-drop ipv6Width octets j 0) (octet-at octets (ipv6Width + j) each))) in
     let n = fresh-counts su in
-    let held = put-holds image (freshSession su) room (k .0) (ap length (fresh-client su) ∙ client) (n .0) (n .1) (k .1) in
+    let held = put-holds image (freshSession su) room (k .0) (ap length (fresh-client su) ∙ client) (ap length (fresh-server su) ∙ server) (n .0) (n .1) (k .1) in
     rw (p ∙ z) held
 
 -- ---- the calls
@@ -150,7 +156,7 @@ carried image c o h r = by-number (leb 3 (answerNumber (o .called .answer))) ref
         let low′ = leb-false 3 (answerNumber (o .called .answer)) e in
         let k = calls-keep c (h .shaped) (h .sound) o r in
         let f = call-fixed c o (h .up) (h .down) r in
-        rw (sym (written-back image (o .called) refl low′)) (put-holds image (o .called .session) (h .room) (k .0) (ap (λ (x : Fixed). length (x .client)) (f .fixed) ∙ h .client) (f .up) (f .down) (k .1))
+        rw (sym (written-back image (o .called) refl low′)) (put-holds image (o .called .session) (h .room) (k .0) (ap (λ (x : Fixed). length (x .client)) (f .fixed) ∙ h .client) (ap (λ (x : Fixed). length (x .server)) (f .fixed) ∙ h .server) (f .up) (f .down) (k .1))
 
 -- ---- an end whose octets do not fit
 

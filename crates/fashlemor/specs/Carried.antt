@@ -8,7 +8,7 @@ use lib.ListN.{length, getD}
 use Rattle.rules.specs.Octets.{every}
 use Rattle.rules.specs.Answers.{answerNumber}
 use Rattle.rules.specs.declared.Answer.{Answer}
-use Rattle.rules.specs.Setup.{ipv6Width, setupIn}
+use Rattle.rules.specs.Setup.{ipv6Width, ipv4Width, setupIn}
 use Rattle.records.specs.Layout.{imageSize}
 use Rattle.output.specs.Buffer.{putAt}
 use Rattle.records.specs.declared.Session.{Session}
@@ -24,6 +24,7 @@ pub record Holds (image : List ℕ) (s : Session) : Type 0 where
   pub read : sessionOf image ≡ s
   pub shaped : Shaped s
   pub client : length (s .fixed .client) ≡ ipv6Width
+  pub server : length (s .fixed .server) ≡ ipv4Width
   pub up : Wrapped (s .up)
   pub down : Wrapped (s .down)
   pub sound : Sound s

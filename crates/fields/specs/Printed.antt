@@ -7,8 +7,8 @@ use Rattle.rules.specs.Exchanges.{allOn}
 -- the session file of "setup with flags 1, `220 hi`, `EPSV`, `227 x (192,0,2,31,237,19)`, each with CR LF"
 unfoldable pub printedFile : List ℕ
 printedFile =
-    0 ∷ 4 ∷ 4 ∷ 0 ∷ 0 ∷ 21 ∷ 1 ∷ 0 ∷ 0 ∷ 8 ∷ 0 ∷ 0 ∷ 0 ∷ 6 ∷ 1 ∷ 0 ∷ 0 ∷ 27
-    ∷ (allOn .client ++ (allOn .mapped ++ (1 ∷ oct "220 hi\r\nEPSV\r\n227 x (192,0,2,31,237,19)\r\n")))
+    0 ∷ 4 ∷ 4 ∷ 0 ∷ 0 ∷ 25 ∷ 1 ∷ 0 ∷ 0 ∷ 8 ∷ 0 ∷ 0 ∷ 0 ∷ 6 ∷ 1 ∷ 0 ∷ 0 ∷ 27
+    ∷ (allOn .client ++ (allOn .mapped ++ (1 ∷ (allOn .server ++ oct "220 hi\r\nEPSV\r\n227 x (192,0,2,31,237,19)\r\n"))))
 
 -- "One whole output": the report of that file, as document 01 prints it
 unfoldable pub printedReport : List ℕ

@@ -16,7 +16,7 @@ use Rattle.files.specs.Contents.{Entry, entryOf, entries, count, tableEn
 
 -- ---- an entry that is right by itself
 
--- "each 0 to 1,024 .. each length 0 .. 21 octets"
+-- "each 0 to 1,024 .. each length 0 .. 25 octets", by request 4 of document 02
 pub record Right (e : Entry) : Type 0 where
   pub most : e .length ≤ 1024
   pub setup : 4 ≤ e .kind → e .length ≡ setupSize

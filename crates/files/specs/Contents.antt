@@ -44,7 +44,7 @@ tableOf file = entries (count file) (drop 2 file)
 abbrev pub isSetup : ℕ → Bool
 isSetup kind = eqb kind 4
 
--- "0 client octets, 1 server octets (each 0 to 1,024), 2 client end, 3 server end (each length 0), 4 setup (21 octets ..)"
+-- "0 client .., 1 server .. (each 0 to 1,024), 2 .., 3 .. (each length 0), 4 setup (..)", which request 4 makes 25 octets
 unfoldable pub goodLength : ℕ → ℕ → Bool
 goodLength kind n =
     choose (leb kind 1) (leb n 1024)

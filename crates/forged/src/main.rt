@@ -26,6 +26,7 @@ fn main() {
         client: [0u8; IPV6],
         mapped: [0u8; IPV4],
         flags: 7,
+        server: [0u8; IPV4],
     }).session;
     io::write_all(STDOUT_FILENO, b"refused\n");
     try_all(dead(fresh));

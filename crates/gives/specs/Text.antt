@@ -4,7 +4,7 @@ use Prim.Native.Nat.{ℕ, _-_, _^_}
 use Rattle.rules.specs.Lines.{passed}
 use Rattle.rules.specs.Commands.{pasvLine, portLine}
 use Rattle.rules.specs.declared.Fixed.{Fixed}
-use Rattle.rules.specs.Replies.{extendedPassiveLine}
+use Rattle.rules.specs.Replies.{extendedPassiveLine, cannotOpenLine}
 use Rattle.gives.specs.declared.Gives.{Gives}
 
 -- the octets that are given: h are the held ones, x the octet
@@ -17,6 +17,7 @@ givesText f h x Gives.HeldAndOctet = passed h ++ passed (x ∷ [])
 givesText f h x Gives.Pasv = pasvLine
 givesText f h x (Gives.Port p) = portLine (f .mapped) p
 givesText f h x (Gives.ExtendedPassive p) = extendedPassiveLine p
+givesText f h x Gives.CannotOpen = cannotOpenLine
 
 -- the most octets that are counted: no buffer is as long
 abbrev pub mostCounted : ℕ

@@ -27,6 +27,7 @@ pub enum Gives {
     Pasv,
     Port(u16),
     ExtendedPassive(u16),
+    CannotOpen,
 }
 
 // How many octets are given, as far as they are counted: all of them where no more are held than a line holds.
@@ -46,6 +47,7 @@ pub fn gives_length(gives: Gives, fixed: Fixed, held: &[u8], x: u8) -> usize
         Gives::Pasv => writers::pasv_length(),
         Gives::Port(port) => writers::port_line_length(mapped, port),
         Gives::ExtendedPassive(port) => writers::extended_passive_length(port),
+        Gives::CannotOpen => writers::cannot_open_length(),
     }
 }
 
@@ -86,6 +88,7 @@ pub fn put_gives(out: &mut [u8], at: usize, gives: Gives, fixed: Fixed, held: &[
         Gives::Pasv => writers::put_pasv(out, at),
         Gives::Port(port) => writers::put_port_line(out, at, mapped, port),
         Gives::ExtendedPassive(port) => writers::put_extended_passive(out, at, port),
+        Gives::CannotOpen => writers::put_cannot_open(out, at),
     }
 }
 

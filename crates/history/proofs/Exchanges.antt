@@ -22,6 +22,7 @@ use Rattle.rules.specs.Exchanges.{
   multiLineExchanges,
   telnetExchanges,
   longTelnetExchanges,
+  strictExchanges,
   Removal,
   removals,
   allOn,
@@ -30,7 +31,7 @@ use Rattle.rules.specs.Exchanges.{
   removalRead,
   exchanges-opened,
 }
-use Rattle.rules.proofs.Exchanges.{twelve-exchanges, multi-line-exchanges, telnet-exchanges, telnet-removals}
+use Rattle.rules.proofs.Exchanges.{twelve-exchanges, multi-line-exchanges, telnet-exchanges, strict-exchanges, telnet-removals}
 use Rattle.readings.proofs.Exchanges.{long-telnet-exchanges}
 use Rattle.queue.specs.Kinds.{kinds-opened}
 use Rattle.gives.specs.Text.{gives-opened}
@@ -58,11 +59,11 @@ use Rattle.history.proofs.Demand3.{demand3}
 holds-of : (e : Exchange) → readAs e ≡ printed e → HoldsOf e
 unfolding readAs
 holds-of e p l f h =
-    let k = demand3 allOn (f .first) (f .last) l (f .fresh) (f .calls) in (
-      sym (k .joinedToServer) ∙ ap allToServer (k .pieces) ∙ ap (λ (is : List Item). allToServer (eachItem allOn is)) h
+    let k = demand3 (e .setup) (f .first) (f .last) l (f .fresh) (f .calls) in (
+      sym (k .joinedToServer) ∙ ap allToServer (k .pieces) ∙ ap (λ (is : List Item). allToServer (eachItem (e .setup) is)) h
           ∙ ap (λ (x : Exchange). x .toServer) p,
-      k .toServer ∙ ap (λ (is : List Item). readServer allOn (textOf client is) (hasEnded client is)) h ∙ ap (λ (x : Exchange). x .spoken) p,
-      k .toClient ∙ ap (readClient allOn) h ∙ ap (λ (x : Exchange). x .toClient) p,
+      k .toServer ∙ ap (λ (is : List Item). readServer (e .setup) (textOf client is) (hasEnded client is)) h ∙ ap (λ (x : Exchange). x .spoken) p,
+      k .toClient ∙ ap (readClient (e .setup)) h ∙ ap (λ (x : Exchange). x .toClient) p,
     )
 
 each-holds : (es : List Exchange) → map readAs es ≡ map printed es → EachHolds es
@@ -80,6 +81,9 @@ telnet-exchanges-through-calls = each-holds telnetExchanges telnet-exchanges
 
 pub long-telnet-exchanges-through-calls : EachHolds longTelnetExchanges
 long-telnet-exchanges-through-calls = each-holds longTelnetExchanges long-telnet-exchanges
+
+pub strict-exchanges-through-calls : EachHolds strictExchanges
+strict-exchanges-through-calls = each-holds strictExchanges strict-exchanges
 
 -- the same of what was removed
 counts-of : (e : Removal) → removalRead e ≡ e → CountsOf e
@@ -111,6 +115,10 @@ short-exchanges-computed = refl
 pub telnet-exchanges-computed : map calledBoth (shortOnes telnetExchanges) ≡ map printedBoth (shortOnes telnetExchanges)
 unfolding all-opened
 telnet-exchanges-computed = refl
+
+pub strict-exchanges-computed : map calledBoth (shortOnes strictExchanges) ≡ map printedBoth (shortOnes strictExchanges)
+unfolding all-opened
+strict-exchanges-computed = refl
 
 pub removals-computed : map countedBoth removals ≡ map removedBoth removals
 unfolding all-opened

@@ -1,17 +1,17 @@
 -- Document 01's rules are those that the session follows, and a fresh session stands where the readings begin.
 use mathlib.Core.Path.{_≡_, refl, ap, _∙_}
 use mathlib.Core.Bool.{Bool, true, false}
-use mathlib.Core.List.{List, _++_}
+use mathlib.Core.List.{List, [], _∷_, _++_}
 use Prim.Native.Nat.{ℕ, _-_}
 use native.Mathlib.Omega.{arith}
 use lib.ListN.{drop, length-replicate}
 use Rattle.rules.specs.Octets.{lf, choose}
-use Rattle.rules.specs.Lines.{judged, mostHeld, passed, content}
+use Rattle.rules.specs.Lines.{judged, mostHeld, passed, unchanged, content}
 use Rattle.rules.specs.Setup.{setupSwitches, badFlags, setupAnswer, fixedBy}
 use Rattle.rules.specs.declared.Setup.{Setup}
 use Rattle.rules.specs.Answers.{answerNumber}
 use Rattle.rules.specs.Commands.{command, commandGives}
-use Rattle.rules.specs.Replies.{passiveReply, passiveGives, finalGives}
+use Rattle.rules.specs.Replies.{passiveReply, extendedPassiveLine, cannotOpenLine, foreign, passiveGives, finalGives}
 use Rattle.rules.specs.Edition.{clientLineOf, document01}
 use Rattle.rules.specs.Items.{freshMoment}
 use Rattle.rules.specs.Demand3.{Call, Return, lentServer, lentClient}
@@ -20,6 +20,7 @@ use Rattle.rules.specs.declared.Command.{Command}
 use Rattle.rules.specs.declared.Kind.{Kind}
 use Rattle.rules.specs.declared.PassiveReply.{PassiveReply}
 use Rattle.records.specs.declared.Session.{Session}
+use Rattle.gives.specs.declared.Gives.{Gives}
 use Rattle.gives.specs.Text.{givesText}
 use Rattle.upstream.specs.Upstream.{commandEffect}
 use Rattle.downstream.specs.Downstream.{kindEffect, passiveEffect}
@@ -39,12 +40,22 @@ command-gives f l (Command.Port p) = refl
 command-gives f l (Command.Answered a) = refl
 command-gives f l Command.Auth = refl
 
-passive-gives : (f : Fixed) (l : List ℕ) (r : PassiveReply) → givesText f l lf (passiveEffect r) ≡ passiveGives l r
-unfolding givesText passiveEffect passiveGives passed choose
-passive-gives f l (PassiveReply.Port p) = refl
-passive-gives f l PassiveReply.Unreadable = refl
+named-gives : (f : Fixed) (l : List ℕ) (p : ℕ) (b : Bool)
+    → givesText f l lf (choose b Gives.CannotOpen (Gives.ExtendedPassive p)) ≡ choose b cannotOpenLine (extendedPassiveLine p)
+unfolding givesText choose
+named-gives f l p true = refl
+named-gives f l p false = refl
 
-final-gives : (f : Fixed) (k : Kind) (l : List ℕ) → givesText f l lf (kindEffect f k (content l)) ≡ finalGives k l
+unread : (f : Fixed) (l : List ℕ) → givesText f l lf Gives.HeldAndOctet ≡ unchanged l
+unfolding givesText passed choose
+unread f l = refl
+
+passive-gives : (f : Fixed) (l : List ℕ) (r : PassiveReply) → givesText f l lf (passiveEffect f r) ≡ passiveGives f l r
+unfolding passiveEffect passiveGives
+passive-gives f l (PassiveReply.At a b c d p) = named-gives f l p (foreign f (a ∷ b ∷ c ∷ d ∷ []))
+passive-gives f l PassiveReply.Unreadable = unread f l
+
+final-gives : (f : Fixed) (k : Kind) (l : List ℕ) → givesText f l lf (kindEffect f k (content l)) ≡ finalGives f k l
 unfolding givesText kindEffect finalGives passed choose
 final-gives f Kind.Plain l = refl
 final-gives f Kind.TranslatedEpsv l = passive-gives f l (passiveReply (content l))

@@ -13,7 +13,7 @@ use Rattle.rules.specs.Octets.{lf, choose}
 use Rattle.rules.specs.Lines.{judged, startsAuth, passed, unchanged, content}
 use Rattle.rules.specs.Telnet.{unfinishedIn}
 use Rattle.rules.specs.Commands.{command, commandOwes, commandSwitches}
-use Rattle.rules.specs.Replies.{isAuth, isOpen, replyLine, passiveReply}
+use Rattle.rules.specs.Replies.{isAuth, isOpen, replyLine, passiveReply, foreign}
 use Rattle.rules.specs.Edition.{ClientLine, LineRules}
 use Rattle.rules.specs.ToServer.{finishedLine, longOwes}
 use Rattle.rules.specs.ToClient.{
@@ -289,9 +289,10 @@ module _ (f : Fixed) (rules : LineRules) (agree : Agrees f rules) where
 
   -- ---- of the server
 
-  stored-passive : (line : List ℕ) (n x : ℕ) (r : PassiveReply) → stored line n x (passiveEffect r) ≡ line
+  stored-passive : (line : List ℕ) (n x : ℕ) (r : PassiveReply) → stored line n x (passiveEffect f r) ≡ line
   unfolding stored passiveEffect
-  stored-passive line n x (PassiveReply.Port p) = refl
+  stored-passive line n x (PassiveReply.At a b c d p) =
+      either (λ (g : Gives). stored line n x g ≡ line) (foreign f (a ∷ b ∷ c ∷ d ∷ [])) _ _ refl refl
   stored-passive line n x PassiveReply.Unreadable = refl
 
   stored-first : (line : List ℕ) (n x : ℕ) (ks : List Kind) (c : List ℕ) → stored line n x (headEffect f (firstOf ks) c) ≡ line

@@ -11,7 +11,7 @@ use Rattle.rules.specs.History.{Item, octet, end, sameSide}
 use Rattle.rules.specs.Items.{Piece}
 use Rattle.rules.specs.Pieces.{rolesOf, spoken}
 use Rattle.rules.specs.Demand3.{Call, arrival, ending, Made, FromFresh, historyOf, goneToServer, goneToClient, spokenToServer}
-use Rattle.rules.specs.Exchanges.{Exchange, telnetExchange, Removal, removal, allOn, greeting, serverSays, printed}
+use Rattle.rules.specs.Exchanges.{Exchange, exchangeOf, Removal, removal, allOn, greeting, serverSays, printed}
 use Rattle.records.specs.declared.Session.{Session}
 use Rattle.session.specs.Calls.{Outcome, prepared, arrived, endCalled}
 use Rattle.history.specs.Gateway.{octetPieces, callPieces, directionNumber, gateway}
@@ -21,8 +21,8 @@ use Rattle.history.specs.Gateway.{octetPieces, callPieces, directionNumb
 -- calls from a fresh session that have an exchange, after the greeting, as their history have sent and spoken what the table has
 abbrev pub HoldsOf : Exchange → Type 0
 HoldsOf e =
-    (l : List (Made gateway)) → FromFresh gateway allOn l → historyOf gateway l ≡ serverSays greeting ++ e .said
-    → (goneToServer gateway l ≡ printed e .toServer) × (spokenToServer gateway allOn l ≡ printed e .spoken)
+    (l : List (Made gateway)) → FromFresh gateway (e .setup) l → historyOf gateway l ≡ serverSays greeting ++ e .said
+    → (goneToServer gateway l ≡ printed e .toServer) × (spokenToServer gateway (e .setup) l ≡ printed e .spoken)
     × (goneToClient gateway l ≡ printed e .toClient)
 
 -- it is so of each exchange in a list
@@ -109,8 +109,8 @@ gone r (p ∷ ps) =
 unfoldable pub calledAs : (List Item → List Part) → Exchange → Exchange
 calledAs cut e =
     let history = serverSays greeting ++ e .said in
-    let g = gone (prepared allOn .session) (cut history) in
-    telnetExchange (e .said) (g .toServer) (spoken (rolesOf allOn history) (g .pieces)) (g .toClient)
+    let g = gone (prepared (e .setup) .session) (cut history) in
+    exchangeOf (e .setup) (e .said) (g .toServer) (spoken (rolesOf (e .setup) history) (g .pieces)) (g .toClient)
 
 -- both ways to cut it
 unfoldable pub calledBoth : Exchange → Exchange × Exchange

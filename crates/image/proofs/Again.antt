@@ -12,7 +12,7 @@ use Rattle.rules.specs.Octets.{choose, every}
 use Rattle.rules.specs.Answers.{wrapped, mostOwed}
 use Rattle.rules.specs.Lines.{mostHeld}
 use Rattle.rules.specs.Setup.{ipv6Width, ipv4Width}
-use Rattle.records.specs.Layout.{numberWidth, liveAt, supportedAt, epsvAt, clientPlaceAt, clientTelnetAt, openingAt, owedAt, clientHeldAt, serverHeldAt, upTakenAt, upWrittenAt, downTakenAt, downWrittenAt, upRemovedAt, downRemovedAt, clientAt, mappedAt, kindsAt, commandAt, imageSize, lentSize, linesSize, bitsSize, placesSize, telnetsSize, marksSize, numbersSize}
+use Rattle.records.specs.Layout.{numberWidth, liveAt, supportedAt, strictAt, epsvAt, clientPlaceAt, clientTelnetAt, openingAt, owedAt, clientHeldAt, serverHeldAt, upTakenAt, upWrittenAt, downTakenAt, downWrittenAt, upRemovedAt, downRemovedAt, clientAt, mappedAt, serverAt, kindsAt, commandAt, imageSize, lentSize, linesSize, bitsSize, placesSize, telnetsSize, marksSize, numbersSize}
 use Rattle.octets.proofs.Ranges.{and-both}
 use Rattle.output.specs.Buffer.{putAt}
 use Rattle.image.specs.Image.{
@@ -88,16 +88,17 @@ record Marked (image : List ℕ) : Type 0 where
 
 marks-same : (image : List ℕ) → marksSize ≤ length image → Marked image → marksOf (fieldsIn image) ≡ part image liveAt marksSize
 unfolding atMost every marksOf fieldsIn controlIn
-marks-same (a ∷ b ∷ c ∷ d ∷ f ∷ g ∷ j ∷ k ∷ rest) h m =
-    let m1 = and-both (leb a 1) (leb b 1 && (leb c 1 && (leb d 1 && true))) (m .bits) in
-    let m2 = and-both (leb b 1) (leb c 1 && (leb d 1 && true)) (m1 .1) in
-    let m3 = and-both (leb c 1) (leb d 1 && true) (m2 .1) in
-    let m4 = and-both (leb d 1) true (m3 .1) in
+marks-same (a ∷ b ∷ c ∷ d ∷ e ∷ f ∷ g ∷ j ∷ k ∷ rest) h m =
+    let m1 = and-both (leb a 1) (leb b 1 && (leb c 1 && (leb d 1 && (leb e 1 && true)))) (m .bits) in
+    let m2 = and-both (leb b 1) (leb c 1 && (leb d 1 && (leb e 1 && true))) (m1 .1) in
+    let m3 = and-both (leb c 1) (leb d 1 && (leb e 1 && true)) (m2 .1) in
+    let m4 = and-both (leb d 1) (leb e 1 && true) (m3 .1) in
+    let m5 = and-both (leb e 1) true (m4 .1) in
     let p1 = and-both (leb f 3) (leb g 3 && true) (m .places) in
     let p2 = and-both (leb g 3) true (p1 .1) in
     let t1 = and-both (leb j 7) (leb k 7 && true) (m .telnets) in
     let t2 = and-both (leb k 7) true (t1 .1) in
-    rw (octet-bit a (m1 .0), octet-bit b (m2 .0), octet-bit c (m3 .0), octet-bit d (m4 .0), octet-place f (p1 .0), octet-place g (p2 .0), octet-telnet j (t1 .0), octet-telnet k (t2 .0))
+    rw (octet-bit a (m1 .0), octet-bit b (m2 .0), octet-bit c (m3 .0), octet-bit d (m4 .0), octet-bit e (m5 .0), octet-place f (p1 .0), octet-place g (p2 .0), octet-telnet j (t1 .0), octet-telnet k (t2 .0))
 marks-same [] h m = absurd (omega arith)
 marks-same (_ ∷ []) h m = absurd (omega arith)
 marks-same (_ ∷ _ ∷ []) h m = absurd (omega arith)
@@ -106,6 +107,7 @@ marks-same (_ ∷ _ ∷ _ ∷ _ ∷ []) h m = absurd (omega arith)
 marks-same (_ ∷ _ ∷ _ ∷ _ ∷ _ ∷ []) h m = absurd (omega arith)
 marks-same (_ ∷ _ ∷ _ ∷ _ ∷ _ ∷ _ ∷ []) h m = absurd (omega arith)
 marks-same (_ ∷ _ ∷ _ ∷ _ ∷ _ ∷ _ ∷ _ ∷ []) h m = absurd (omega arith)
+marks-same (_ ∷ _ ∷ _ ∷ _ ∷ _ ∷ _ ∷ _ ∷ _ ∷ []) h m = absurd (omega arith)
 
 -- ---- the numbers and the arrays
 
@@ -147,7 +149,7 @@ module _ (image : List ℕ) (long : imageSize ≤ length image) (octets : (i : �
 
   arrays-same : arraysOf (fieldsIn image) ≡ part image clientAt lentSize
   unfolding arraysOf fieldsIn
-  arrays-same = rw (adjoined image commandAt mostHeld mostHeld, adjoined image kindsAt mostOwed linesSize, adjoined image mappedAt ipv4Width (imageSize - kindsAt), adjoined image clientAt ipv6Width (imageSize - mappedAt))
+  arrays-same = rw (adjoined image commandAt mostHeld mostHeld, adjoined image kindsAt mostOwed linesSize, adjoined image serverAt ipv4Width (imageSize - kindsAt), adjoined image mappedAt ipv4Width (imageSize - serverAt), adjoined image clientAt ipv6Width (imageSize - mappedAt))
 
   image-same : Marked image → imageOf (fieldsIn image) ≡ take imageSize image
   unfolding imageOf
@@ -168,8 +170,8 @@ tests image ok =
 pub image-long : (image : List ℕ) → isImage image ≡ true → imageSize ≤ length image
 image-long image ok = tests image ok .0
 
--- the two marks that no call changes
-pub fixed-marks : (image : List ℕ) → isImage image ≡ true → markOf (isSet image liveAt) ∷ markOf (isSet image supportedAt) ∷ [] ≡ take epsvAt image
+-- the three marks that no call changes
+pub fixed-marks : (image : List ℕ) → isImage image ≡ true → markOf (isSet image liveAt) ∷ markOf (isSet image supportedAt) ∷ markOf (isSet image strictAt) ∷ [] ≡ take epsvAt image
 unfolding marksOf fieldsIn
 fixed-marks image ok =
     let t = tests image ok in

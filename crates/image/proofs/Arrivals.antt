@@ -14,7 +14,7 @@ use Rattle.rules.specs.Octets.{choose}
 use Rattle.rules.specs.Answers.{Side, client, server, sideOf, answerNumber, soundRecord, refusal, stop, mostOwed}
 use Rattle.rules.specs.declared.Answer.{Answer}
 use Rattle.rules.specs.Lines.{mostHeld}
-use Rattle.records.specs.Layout.{liveAt, supportedAt, epsvAt, upTakenAt, downTakenAt, clientAt, mappedAt, kindsAt, commandAt, replyAt, imageSize, lentMapped, lentKinds, lentCommand, lentReply, lentSize}
+use Rattle.records.specs.Layout.{liveAt, supportedAt, strictAt, epsvAt, upTakenAt, downTakenAt, clientAt, mappedAt, serverAt, kindsAt, commandAt, replyAt, imageSize, lentMapped, lentServerAddress, lentKinds, lentCommand, lentReply, lentSize}
 use Rattle.output.specs.Buffer.{putAt}
 use Rattle.records.specs.declared.Control.{Control}
 use Rattle.records.specs.declared.Counts.{Counts}
@@ -85,8 +85,12 @@ module _ (image : List ℕ) (room : imageSize ≤ length image) where
   pub mapped-lies : take ipv4Width (drop lentMapped lent) ≡ part image mappedAt ipv4Width
   mapped-lies = lies lentMapped ipv4Width (omega arith)
 
-  pub fixed-lies : (supported : Bool) → fixedLent supported lent ≡ record { client = part image clientAt ipv6Width; mapped = part image mappedAt ipv4Width; supported = supported }
-  fixed-lies supported = λ i. record { client = client-lies i; mapped = mapped-lies i; supported = supported }
+  pub server-lies : take ipv4Width (drop lentServerAddress lent) ≡ part image serverAt ipv4Width
+  server-lies = lies lentServerAddress ipv4Width (omega arith)
+
+  pub fixed-lies : (supported strict : Bool)
+      → fixedLent supported strict lent ≡ record { client = part image clientAt ipv6Width; mapped = part image mappedAt ipv4Width; server = part image serverAt ipv4Width; supported = supported; strict = strict }
+  fixed-lies supported strict = λ i. record { client = client-lies i; mapped = mapped-lies i; server = server-lies i; supported = supported; strict = strict }
 
   pub state-lies : (c : Control) → stateLent c lent ≡ stateFrom c (part image commandAt mostHeld) (part image replyAt mostHeld) (part image kindsAt mostOwed)
   state-lies c =
@@ -97,14 +101,17 @@ module _ (image : List ℕ) (room : imageSize ≤ length image) where
       λ i. stateFrom c (command i) (reply i) (kinds i)
 
 -- octets of the number that are lent, as the arrays of a record
-pub arrays-lent : (l : List ℕ) → take ipv6Width l ++ (take ipv4Width (drop lentMapped l) ++ (kindsLent l ++ (commandIn (linesLent l) ++ replyIn (linesLent l)))) ≡ l
+pub arrays-lent : (l : List ℕ)
+    → take ipv6Width l ++ (take ipv4Width (drop lentMapped l) ++ (take ipv4Width (drop lentServerAddress l) ++ (kindsLent l ++ (commandIn (linesLent l) ++ replyIn (linesLent l))))) ≡ l
 arrays-lent l =
-    ap (λ (r : List ℕ). take ipv6Width l ++ (take ipv4Width (drop lentMapped l) ++ (kindsLent l ++ r))) (take-append-drop mostHeld (linesLent l))
-    ∙ (ap (λ (r : List ℕ). take ipv6Width l ++ (take ipv4Width (drop lentMapped l) ++ r))
+    ap (λ (r : List ℕ). take ipv6Width l ++ (take ipv4Width (drop lentMapped l) ++ (take ipv4Width (drop lentServerAddress l) ++ (kindsLent l ++ r)))) (take-append-drop mostHeld (linesLent l))
+    ∙ (ap (λ (r : List ℕ). take ipv6Width l ++ (take ipv4Width (drop lentMapped l) ++ (take ipv4Width (drop lentServerAddress l) ++ r)))
     (ap (λ (r : List ℕ). kindsLent l ++ r) (sym (drop-drop mostOwed lentKinds l)) ∙ take-append-drop mostOwed (drop lentKinds l))
+    ∙ (ap (λ (r : List ℕ). take ipv6Width l ++ (take ipv4Width (drop lentMapped l) ++ r))
+    (ap (λ (r : List ℕ). take ipv4Width (drop lentServerAddress l) ++ r) (sym (drop-drop ipv4Width lentServerAddress l)) ∙ take-append-drop ipv4Width (drop lentServerAddress l))
     ∙ (ap (λ (r : List ℕ). take ipv6Width l ++ r)
     (ap (λ (r : List ℕ). take ipv4Width (drop lentMapped l) ++ r) (sym (drop-drop ipv4Width lentMapped l)) ∙ take-append-drop ipv4Width (drop lentMapped l))
-    ∙ take-append-drop lentMapped l))
+    ∙ take-append-drop lentMapped l)))
 
 -- ---- what an arrival leaves
 
@@ -121,15 +128,15 @@ module _ (image octets out other : List ℕ) (d : ℕ) (side : Side) (same : sid
   abbrev whole : Took
   whole = takes (s .fixed) side (stateOf s) octets (length out) (length other)
 
-  pub lent-all : (supported : Bool) (c : Control) → supported ≡ isSet image supportedAt → c ≡ controlIn image
-      → tookIn supported side c (lent image room) octets (length out) (length other) ≡ whole
+  pub lent-all : (supported strict : Bool) (c : Control) → supported ≡ isSet image supportedAt → strict ≡ isSet image strictAt → c ≡ controlIn image
+      → tookIn supported strict side c (lent image room) octets (length out) (length other) ≡ whole
   unfolding fieldsIn
-  lent-all supported c es ec =
+  lent-all supported strict c es et ec =
       let k = countable s d free in
-      (λ i. tookIn (es i) side (ec i) (lent image room) octets (length out) (length other))
-      ∙ (took-all (s .fixed .supported) side (s .control) (lent image room) octets (length out) (length other)
+      (λ i. tookIn (es i) (et i) side (ec i) (lent image room) octets (length out) (length other))
+      ∙ (took-all (s .fixed .supported) (s .fixed .strict) side (s .control) (lent image room) octets (length out) (length other)
       (counts-holdable (s .control) (k .owed) (k .command) (k .reply)) (lent-size image room)
-      ∙ (λ i. takes (fixed-lies image room (s .fixed .supported) i) side (state-lies image room (s .control) i) octets (length out) (length other)))
+      ∙ (λ i. takes (fixed-lies image room (s .fixed .supported) (s .fixed .strict) i) side (state-lies image room (s .control) i) octets (length out) (length other)))
 
   -- t is what `take` returned, and arrays what was lent then
   module _ (took : Took) (all : took ≡ whole) (t : Taken) (arrays out′ other′ : List ℕ)
@@ -158,10 +165,10 @@ module _ (image octets out other : List ℕ) (d : ℕ) (side : Side) (same : sid
         (eu′ : up′ ≡ counted up (takenFor client side (t .taken)) (t .written .server))
         (ed′ : down′ ≡ counted down (takenFor server side (t .taken)) (t .written .client)) where
       abbrev fixed : List ℕ
-      fixed = markOf (isSet image liveAt) ∷ markOf (isSet image supportedAt) ∷ []
+      fixed = markOf (isSet image liveAt) ∷ markOf (isSet image supportedAt) ∷ markOf (isSet image strictAt) ∷ []
 
       abbrev marks : List ℕ
-      marks = marksFrom (isSet image liveAt) (isSet image supportedAt) (t .control)
+      marks = marksFrom (isSet image liveAt) (isSet image supportedAt) (isSet image strictAt) (t .control)
 
       abbrev numbers : List ℕ
       numbers = numbersFrom (t .control) up′ down′
@@ -173,17 +180,17 @@ module _ (image octets out other : List ℕ) (d : ℕ) (side : Side) (same : sid
           eu′ ∙ ap (λ (k : Counts). counted k (takenFor client side (t .taken)) (t .written .server)) eu in
           let v : down′ ≡ counted (countsAt image downTakenAt) (takenFor server side (t .taken)) (t .written .client) =
           ed′ ∙ ap (λ (k : Counts). counted k (takenFor server side (t .taken)) (t .written .client)) ed in
-          let kept = fixed-same arrays size (lent image room) (lent-size image room) addresses true ∙ fixed-lies image room true in
-          let same : arrays ≡ part image clientAt ipv6Width ++ (part image mappedAt ipv4Width ++ (kindsLent arrays ++ (commandIn (linesLent arrays) ++ replyIn (linesLent arrays)))) =
-          sym (arrays-lent arrays) ∙ (λ i. kept i .client ++ (kept i .mapped ++ (kindsLent arrays ++ (commandIn (linesLent arrays) ++ replyIn (linesLent arrays))))) in
+          let kept = fixed-same arrays size (lent image room) (lent-size image room) addresses true true ∙ fixed-lies image room true true in
+          let same : arrays ≡ part image clientAt ipv6Width ++ (part image mappedAt ipv4Width ++ (part image serverAt ipv4Width ++ (kindsLent arrays ++ (commandIn (linesLent arrays) ++ replyIn (linesLent arrays))))) =
+          sym (arrays-lent arrays) ∙ (λ i. kept i .client ++ (kept i .mapped ++ (kept i .server ++ (kindsLent arrays ++ (commandIn (linesLent arrays) ++ replyIn (linesLent arrays)))))) in
           append-assoc marks numbers arrays
           ∙ (λ i. marks ++ (numbersFrom (t .control) (u i) (v i) ++ same i))
 
-      -- the two marks that stay lie before what is written
+      -- the three marks that stay lie before what is written
       all-marks : putAt (putMid clientAt lentSize image arrays) epsvAt (marksIn (t .control) ++ numbers) ≡ putAt (putMid clientAt lentSize image arrays) 0 (marks ++ numbers)
       all-marks =
           let head = length-take-le clientAt image (omega arith) in
-          let front = front-length (isSet image liveAt) (isSet image supportedAt) (t .control) up′ down′ in
+          let front = front-length (isSet image liveAt) (isSet image supportedAt) (isSet image strictAt) (t .control) up′ down′ in
           let long = same-len-mid clientAt lentSize image arrays (size ∙ sym (lent-size image room)) in
           let stay = fixed-marks image ok
           ∙ sym (take-append-le epsvAt (take clientAt image) (arrays ++ postOf clientAt lentSize image) (omega arith) ∙ take-take epsvAt clientAt image (omega arith)) in
@@ -194,7 +201,7 @@ module _ (image octets out other : List ℕ) (d : ℕ) (side : Side) (same : sid
       unfolding serverAfter clientAfter imageAfter choose
       left image′ e =
           let p = promised .0 in
-          let front = front-length (isSet image liveAt) (isSet image supportedAt) (t .control) up′ down′ in
+          let front = front-length (isSet image liveAt) (isSet image supportedAt) (isSet image strictAt) (t .control) up′ down′ in
           let back = e ∙ (all-marks ∙ (patched image arrays (marks ++ numbers) room size front ∙ ap (putAt image 0) next-image)) in (
             (
               record { answer = ap (λ (k : Called). k .answer) p; taken = ap (λ (k : Called). k .taken) p; written = ap (λ (k : Called). k .written) p },

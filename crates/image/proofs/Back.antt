@@ -13,7 +13,7 @@ use Rattle.rules.specs.Lines.{judged, mostHeld}
 use Rattle.rules.specs.Answers.{mostOwed}
 use Rattle.rules.specs.Setup.{ipv6Width, ipv4Width}
 use Rattle.rules.specs.declared.Telnet.{Telnet}
-use Rattle.records.specs.Layout.{liveAt, supportedAt, clientPlaceAt, clientTelnetAt, upTakenAt, downTakenAt, clientAt, mappedAt, kindsAt, commandAt, replyAt, imageSize, lentMapped, lentKinds, lentCommand, lentReply, bitsSize, placesSize, telnetsSize}
+use Rattle.records.specs.Layout.{liveAt, supportedAt, strictAt, clientPlaceAt, clientTelnetAt, upTakenAt, downTakenAt, clientAt, mappedAt, serverAt, kindsAt, commandAt, replyAt, imageSize, lentMapped, lentServerAddress, lentKinds, lentCommand, lentReply, bitsSize, placesSize, telnetsSize}
 use Rattle.places.specs.declared.Place.{Place}
 use Rattle.records.specs.declared.Session.{Session}
 use Rattle.session.specs.Calls.{deadSession}
@@ -121,7 +121,7 @@ module _ (s : Session) (rest : List ℕ) (h : Sized s) where
 
   marks : atMost 1 (part image liveAt bitsSize) ≡ true
   unfolding imageOf marksOf atMost every
-  marks = rw (bit-most (s .live), bit-most (s .fixed .supported), bit-most (s .control .switches .epsv), bit-most (s .control .switches .eprt))
+  marks = rw (bit-most (s .live), bit-most (s .fixed .supported), bit-most (s .fixed .strict), bit-most (s .control .switches .epsv), bit-most (s .control .switches .eprt))
 
   places : atMost 3 (part image clientPlaceAt placesSize) ≡ true
   unfolding imageOf marksOf atMost every
@@ -143,29 +143,35 @@ module _ (s : Session) (rest : List ℕ) (h : Sized s) where
 
   client-back : part image clientAt ipv6Width ≡ s .fixed .client
   unfolding imageOf marksOf numbersOf fourOctets arraysOf
-  client-back = array [] (s .fixed .client) (s .fixed .mapped ++ (s .kinds ++ (s .command ++ (s .reply ++ rest)))) 0 ipv6Width (simp append-assoc) refl (h .client)
+  client-back = array [] (s .fixed .client) (s .fixed .mapped ++ (s .fixed .server ++ (s .kinds ++ (s .command ++ (s .reply ++ rest))))) 0 ipv6Width (simp append-assoc) refl (h .client)
 
   mapped-back : part image mappedAt ipv4Width ≡ s .fixed .mapped
   unfolding imageOf marksOf numbersOf fourOctets arraysOf
-  mapped-back = array (s .fixed .client) (s .fixed .mapped) (s .kinds ++ (s .command ++ (s .reply ++ rest))) lentMapped ipv4Width (simp append-assoc) (h .client) (h .mapped)
+  mapped-back = array (s .fixed .client) (s .fixed .mapped) (s .fixed .server ++ (s .kinds ++ (s .command ++ (s .reply ++ rest)))) lentMapped ipv4Width (simp append-assoc) (h .client) (h .mapped)
+
+  server-back : part image serverAt ipv4Width ≡ s .fixed .server
+  unfolding imageOf marksOf numbersOf fourOctets arraysOf
+  server-back =
+      array (s .fixed .client ++ s .fixed .mapped) (s .fixed .server) (s .kinds ++ (s .command ++ (s .reply ++ rest))) lentServerAddress ipv4Width (simp append-assoc) (rw length-append (omega (arith, h .client, h .mapped)))
+      (h .server)
 
   kinds-back : part image kindsAt mostOwed ≡ s .kinds
   unfolding imageOf marksOf numbersOf fourOctets arraysOf
   kinds-back =
-      array (s .fixed .client ++ s .fixed .mapped) (s .kinds) (s .command ++ (s .reply ++ rest)) lentKinds mostOwed (simp append-assoc) (rw length-append (omega (arith, h .client, h .mapped)))
+      array (s .fixed .client ++ (s .fixed .mapped ++ s .fixed .server)) (s .kinds) (s .command ++ (s .reply ++ rest)) lentKinds mostOwed (simp append-assoc) (simp length-append (omega (arith, h .client, h .mapped, h .server)))
       (h .kinds)
 
   command-back : part image commandAt mostHeld ≡ s .command
   unfolding imageOf marksOf numbersOf fourOctets arraysOf
   command-back =
-      array (s .fixed .client ++ (s .fixed .mapped ++ s .kinds)) (s .command) (s .reply ++ rest) lentCommand mostHeld (simp append-assoc) (simp length-append (omega (arith, h .client, h .mapped, h .kinds)))
+      array (s .fixed .client ++ (s .fixed .mapped ++ (s .fixed .server ++ s .kinds))) (s .command) (s .reply ++ rest) lentCommand mostHeld (simp append-assoc) (simp length-append (omega (arith, h .client, h .mapped, h .server, h .kinds)))
       (h .command)
 
   reply-back : part image replyAt mostHeld ≡ s .reply
   unfolding imageOf marksOf numbersOf fourOctets arraysOf
   reply-back =
-      array (s .fixed .client ++ (s .fixed .mapped ++ (s .kinds ++ s .command))) (s .reply) rest lentReply mostHeld (simp append-assoc)
-      (simp length-append (omega (arith, h .client, h .mapped, h .kinds, h .command)))
+      array (s .fixed .client ++ (s .fixed .mapped ++ (s .fixed .server ++ (s .kinds ++ s .command)))) (s .reply) rest lentReply mostHeld (simp append-assoc)
+      (simp length-append (omega (arith, h .client, h .mapped, h .server, h .kinds, h .command)))
       (h .reply)
 
   -- ---- the marks and the numbers
@@ -194,10 +200,14 @@ module _ (s : Session) (rest : List ℕ) (h : Sized s) where
     unfolding imageOf marksOf
     supported-back = bit-set (s .fixed .supported)
 
+    strict-back : isSet image strictAt ≡ s .fixed .strict
+    unfolding imageOf marksOf
+    strict-back = bit-set (s .fixed .strict)
+
     pub fields-back : Wrapped (s .up) → Wrapped (s .down) → sessionOf image ≡ s
     unfolding sessionOf choose fieldsIn
     fields-back u d =
-        rw (image-is, live-back, supported-back, client-back, mapped-back, kinds-back, command-back, reply-back, control-back, up-back u, down-back d)
+        rw (image-is, live-back, supported-back, strict-back, client-back, mapped-back, server-back, kinds-back, command-back, reply-back, control-back, up-back u, down-back d)
 
 pub read-back : ReadBack
 read-back s rest h numbers up down ok =
@@ -210,6 +220,7 @@ dead-sized =
     record {
       client = length-replicate {A = ℕ} ipv6Width 0;
       mapped = length-replicate {A = ℕ} ipv4Width 0;
+      server = length-replicate {A = ℕ} ipv4Width 0;
       kinds = length-replicate {A = ℕ} mostOwed 0;
       command = length-replicate {A = ℕ} mostHeld 0;
       reply = length-replicate {A = ℕ} mostHeld 0;

@@ -14,7 +14,7 @@ use Rattle.rules.specs.declared.Answer.{Answer}
 use Rattle.rules.specs.declared.Telnet.{Telnet}
 use Rattle.rules.specs.Lines.{mostHeld}
 use Rattle.rules.specs.Setup.{ipv6Width, ipv4Width}
-use Rattle.records.specs.Layout.{liveAt, supportedAt, epsvAt, eprtAt, clientPlaceAt, serverPlaceAt, clientTelnetAt, serverTelnetAt, openingAt, owedAt, clientHeldAt, serverHeldAt, upTakenAt, downTakenAt, upRemovedAt, downRemovedAt, clientAt, mappedAt, kindsAt, commandAt, replyAt, imageSize, bitsSize, placesSize, telnetsSize}
+use Rattle.records.specs.Layout.{liveAt, supportedAt, strictAt, epsvAt, eprtAt, clientPlaceAt, serverPlaceAt, clientTelnetAt, serverTelnetAt, openingAt, owedAt, clientHeldAt, serverHeldAt, upTakenAt, downTakenAt, upRemovedAt, downRemovedAt, clientAt, mappedAt, serverAt, kindsAt, commandAt, replyAt, imageSize, bitsSize, placesSize, telnetsSize}
 use Rattle.octets.proofs.Ranges.{and-both}
 use Rattle.places.specs.declared.Place.{Place}
 use Rattle.places.specs.Places.{at}
@@ -75,13 +75,13 @@ unfolding controlIn
 control-read image a b c d e f g h j k = rw (a, b, c, d, e, f, g, h, j, k)
 
 -- a record of the parts that were read
-pub fields-read : (image : List ℕ) {client mapped kinds command reply : List ℕ} {control : Control} {up down : Counts}
-    → client ≡ part image clientAt ipv6Width → mapped ≡ part image mappedAt ipv4Width → kinds ≡ part image kindsAt mostOwed → command ≡ part image commandAt mostHeld
+pub fields-read : (image : List ℕ) {client mapped server kinds command reply : List ℕ} {control : Control} {up down : Counts}
+    → client ≡ part image clientAt ipv6Width → mapped ≡ part image mappedAt ipv4Width → server ≡ part image serverAt ipv4Width → kinds ≡ part image kindsAt mostOwed → command ≡ part image commandAt mostHeld
     → reply ≡ part image replyAt mostHeld → control ≡ controlIn image → up ≡ countsAt image upTakenAt → down ≡ countsAt image downTakenAt
     → _≡_ {A = Session}
     (record {
       live = isSet image liveAt;
-      fixed = record { client = client; mapped = mapped; supported = isSet image supportedAt };
+      fixed = record { client = client; mapped = mapped; server = server; supported = isSet image supportedAt; strict = isSet image strictAt };
       control = control;
       command = command;
       reply = reply;
@@ -91,7 +91,7 @@ pub fields-read : (image : List ℕ) {client mapped kinds command reply : List �
     })
     (fieldsIn image)
 unfolding fieldsIn
-fields-read image a b c d e f g h = rw (a, b, c, d, e, f, g, h)
+fields-read image a b c d e f g h i = rw (a, b, c, d, e, f, g, h, i)
 
 -- ---- what is an image, and what is not
 

@@ -36,14 +36,14 @@ pub numbers-put : (out : List ℕ) (c : Control) (up down : Counts) {owed comman
     → last ≡ putAt out openingAt (numbersBy c owed command reply up down) → last ≡ putAt out openingAt (numbersFrom c up down)
 numbers-put out c up down eo ec er put = put ∙ (λ i. putAt out openingAt (numbersBy c (eo i) (ec i) (er i) up down))
 
-pub front-length : (live supported : Bool) (c : Control) (up down : Counts) → length (marksFrom live supported c ++ numbersFrom c up down) ≡ clientAt
+pub front-length : (live supported strict : Bool) (c : Control) (up down : Counts) → length (marksFrom live supported strict c ++ numbersFrom c up down) ≡ clientAt
 unfolding fourOctets
-front-length live supported c up down = refl
+front-length live supported strict c up down = refl
 
 pub arrays-length : (s : Session) → Sized s → length (arraysOf s) ≡ lentSize
 unfolding arraysOf
 arrays-length s h =
-    simp length-append (omega (arith, h .client, h .mapped, h .kinds, h .command, h .reply))
+    simp length-append (omega (arith, h .client, h .mapped, h .server, h .kinds, h .command, h .reply))
 
 pub image-length : (s : Session) → Sized s → length (imageOf s) ≡ imageSize
 unfolding imageOf marksOf numbersOf fourOctets

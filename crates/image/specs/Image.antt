@@ -11,7 +11,7 @@ use Rattle.rules.specs.Answers.{mostOwed}
 use Rattle.rules.specs.Setup.{ipv6Width, ipv4Width}
 use Rattle.rules.specs.declared.Fixed.{Fixed}
 use Rattle.rules.specs.declared.Telnet.{Telnet}
-use Rattle.records.specs.Layout.{numberWidth, liveAt, supportedAt, epsvAt, eprtAt, clientPlaceAt, serverPlaceAt, clientTelnetAt, serverTelnetAt, openingAt, owedAt, clientHeldAt, serverHeldAt, upTakenAt, downTakenAt, upRemovedAt, downRemovedAt, clientAt, mappedAt, kindsAt, commandAt, replyAt, imageSize, bitsSize, placesSize, telnetsSize}
+use Rattle.records.specs.Layout.{numberWidth, liveAt, supportedAt, strictAt, epsvAt, eprtAt, clientPlaceAt, serverPlaceAt, clientTelnetAt, serverTelnetAt, openingAt, owedAt, clientHeldAt, serverHeldAt, upTakenAt, downTakenAt, upRemovedAt, downRemovedAt, clientAt, mappedAt, serverAt, kindsAt, commandAt, replyAt, imageSize, bitsSize, placesSize, telnetsSize}
 use Rattle.places.specs.declared.Place.{Place}
 use Rattle.places.specs.Places.{at}
 use Rattle.records.specs.declared.Control.{Control}
@@ -62,13 +62,13 @@ marksIn c =
     ∷ placeNumber (c .client .place) ∷ placeNumber (c .server .place)
     ∷ telnetNumber (c .up .telnet) ∷ telnetNumber (c .down .telnet) ∷ []
 
--- behind two that stay from the setup on
-abbrev pub marksFrom : Bool → Bool → Control → List ℕ
-marksFrom live supported c = markOf live ∷ markOf supported ∷ marksIn c
+-- behind three that stay from the setup on
+abbrev pub marksFrom : Bool → Bool → Bool → Control → List ℕ
+marksFrom live supported strict c = markOf live ∷ markOf supported ∷ markOf strict ∷ marksIn c
 
 -- all marks of a record
 unfoldable pub marksOf : Session → List ℕ
-marksOf s = marksFrom (s .live) (s .fixed .supported) (s .control)
+marksOf s = marksFrom (s .live) (s .fixed .supported) (s .fixed .strict) (s .control)
 
 -- the opening code, the replies owed, the octets held of both lines, what is counted, and the octets removed
 abbrev pub numbersBy : Control → ℕ → ℕ → ℕ → Counts → Counts → List ℕ
@@ -94,7 +94,7 @@ numbersOf s = numbersFrom (s .control) (s .up) (s .down)
 
 -- the addresses, the kinds and both lines
 unfoldable pub arraysOf : Session → List ℕ
-arraysOf s = s .fixed .client ++ (s .fixed .mapped ++ (s .kinds ++ (s .command ++ s .reply)))
+arraysOf s = s .fixed .client ++ (s .fixed .mapped ++ (s .fixed .server ++ (s .kinds ++ (s .command ++ s .reply))))
 
 -- the whole image: marks, numbers, arrays
 unfoldable pub imageOf : Session → List ℕ
@@ -156,7 +156,9 @@ fixedIn image =
     record {
       client = part image clientAt ipv6Width;
       mapped = part image mappedAt ipv4Width;
+      server = part image serverAt ipv4Width;
       supported = isSet image supportedAt;
+      strict = isSet image strictAt;
     }
 
 -- all fields
@@ -193,6 +195,7 @@ sessionOf image = choose (isImage image) (fieldsIn image) deadSession
 pub record Sized (s : Session) : Type 0 where
   pub client : length (s .fixed .client) ≡ ipv6Width
   pub mapped : length (s .fixed .mapped) ≡ ipv4Width
+  pub server : length (s .fixed .server) ≡ ipv4Width
   pub kinds : length (s .kinds) ≡ mostOwed
   pub command : length (s .command) ≡ mostHeld
   pub reply : length (s .reply) ≡ mostHeld

@@ -46,11 +46,13 @@ pub fn arrive_at(
     }
     let from_client = direction == 0;
     let supported = image[layout::SUPPORTED] == 1;
+    let strict = image[layout::STRICT] == 1;
     let control = control_in(image);
     let up = counts_at(image, layout::UP_TAKEN);
     let down = counts_at(image, layout::DOWN_TAKEN);
     let t = take(
         supported,
+        strict,
         from_client,
         control,
         octets,

@@ -49,7 +49,14 @@ pub fn put_image(image: &mut [u8], session: Session)
     let fixed = session.fixed;
     let up = session.up;
     let down = session.down;
-    put_marks(image, layout::LIVE, session.live, fixed.supported, control);
+    put_marks(
+        image,
+        layout::LIVE,
+        session.live,
+        fixed.supported,
+        fixed.strict,
+        control,
+    );
     let said = control.client;
     let answered = control.server;
     let owed = capped(control.owed);
@@ -59,10 +66,17 @@ pub fn put_image(image: &mut [u8], session: Session)
     put_arrays(image, layout::CLIENT, session);
 }
 
-fn put_marks(out: &mut [u8], at: usize, live: bool, supported: bool, control: Control) -> usize
-    ensures { λ r. ⌜ PutInRoom (now (out .entry)) at (marksFrom live supported control) r (now (out .exit)) ⌝ }
+fn put_marks(
+    out: &mut [u8],
+    at: usize,
+    live: bool,
+    supported: bool,
+    strict: bool,
+    control: Control,
+) -> usize
+    ensures { λ r. ⌜ PutInRoom (now (out .entry)) at (marksFrom live supported strict control) r (now (out .exit)) ⌝ }
 {
-    let fixed = [bit(live), bit(supported)];
+    let fixed = [bit(live), bit(supported), bit(strict)];
     let next = put(out, at, &fixed);
     put_control(out, next, control)
 }
@@ -194,11 +208,13 @@ fn put_arrays(out: &mut [u8], at: usize, session: Session) -> usize
     let fixed = session.fixed;
     let client = fixed.client;
     let mapped = fixed.mapped;
+    let server = fixed.server;
     let kinds = session.kinds;
     let command = session.command;
     let reply = session.reply;
     let mut next = put(out, at, &client);
     next = put(out, next, &mapped);
+    next = put(out, next, &server);
     next = put(out, next, &kinds);
     next = put(out, next, &command);
     put(out, next, &reply)
@@ -272,8 +288,10 @@ fn fields(image: &[u8]) -> Session
 {
     let live = image[layout::LIVE] == 1;
     let supported = image[layout::SUPPORTED] == 1;
+    let strict = image[layout::STRICT] == 1;
     let client = ipv6_from(&image[layout::CLIENT..layout::MAPPED]);
-    let mapped = ipv4_from(&image[layout::MAPPED..layout::KINDS]);
+    let mapped = ipv4_from(&image[layout::MAPPED..layout::SERVER]);
+    let server = ipv4_from(&image[layout::SERVER..layout::KINDS]);
     let kinds = kinds_from(&image[layout::KINDS..layout::COMMAND]);
     let command = held_line(&image[layout::COMMAND..layout::REPLY]);
     let reply = held_line(&image[layout::REPLY..layout::SIZE]);
@@ -283,7 +301,9 @@ fn fields(image: &[u8]) -> Session
     let fixed = Fixed {
         client,
         mapped,
+        server,
         supported,
+        strict,
     };
     Session {
         live,

@@ -14,7 +14,7 @@ markWidth = 1
 abbrev pub numberWidth : ℕ
 numberWidth = 4
 
--- ---- where it begins: two marks that stay from the setup on
+-- ---- where it begins: three marks that stay from the setup on
 
 abbrev pub liveAt : ℕ
 liveAt = 0
@@ -22,10 +22,13 @@ liveAt = 0
 abbrev pub supportedAt : ℕ
 supportedAt = liveAt + markWidth
 
+abbrev pub strictAt : ℕ
+strictAt = supportedAt + markWidth
+
 -- ---- the marks that calls can change
 
 abbrev pub epsvAt : ℕ
-epsvAt = supportedAt + markWidth
+epsvAt = strictAt + markWidth
 
 abbrev pub eprtAt : ℕ
 eprtAt = epsvAt + markWidth
@@ -82,8 +85,11 @@ clientAt = downRemovedAt + numberWidth
 abbrev pub mappedAt : ℕ
 mappedAt = clientAt + ipv6Width
 
+abbrev pub serverAt : ℕ
+serverAt = mappedAt + ipv4Width
+
 abbrev pub kindsAt : ℕ
-kindsAt = mappedAt + ipv4Width
+kindsAt = serverAt + ipv4Width
 
 abbrev pub commandAt : ℕ
 commandAt = kindsAt + mostOwed
@@ -120,6 +126,9 @@ linesSize = imageSize - commandAt
 
 abbrev pub lentMapped : ℕ
 lentMapped = mappedAt - clientAt
+
+abbrev pub lentServerAddress : ℕ
+lentServerAddress = serverAt - clientAt
 
 abbrev pub lentKinds : ℕ
 lentKinds = kindsAt - clientAt

@@ -9,13 +9,15 @@ const MARK: usize = 1;
 
 pub const NUMBER: usize = 4;
 
-// Two marks that stay from the setup on.
+// Three marks that stay from the setup on.
 pub const LIVE: usize = 0;
 
 pub const SUPPORTED: usize = LIVE + MARK;
 
+pub const STRICT: usize = SUPPORTED + MARK;
+
 // The marks that calls can change.
-pub const EPSV: usize = SUPPORTED + MARK;
+pub const EPSV: usize = STRICT + MARK;
 
 pub const EPRT: usize = EPSV + MARK;
 
@@ -53,7 +55,9 @@ pub const CLIENT: usize = DOWN_REMOVED + NUMBER;
 
 pub const MAPPED: usize = CLIENT + IPV6;
 
-pub const KINDS: usize = MAPPED + IPV4;
+pub const SERVER: usize = MAPPED + IPV4;
+
+pub const KINDS: usize = SERVER + IPV4;
 
 pub const COMMAND: usize = KINDS + OWED;
 
@@ -63,6 +67,8 @@ pub const SIZE: usize = REPLY + HELD;
 
 // The arrays by themselves, as an arrival is lent them, and where each begins there.
 pub const LENT_MAPPED: usize = MAPPED - CLIENT;
+
+pub const LENT_SERVER: usize = SERVER - CLIENT;
 
 pub const LENT_KINDS: usize = KINDS - CLIENT;
 

@@ -8,7 +8,7 @@ use lib.Dec.{leb, eqb}
 use lib.ListN.{length, getD, take, drop, length-take}
 use borrow.Author.Tests.{lt-leb, le-leb, leb-true, leb-false, ne-eqb}
 use Rattle.rules.specs.Octets.{space, hyphen, oct, choose, equal, within, digit, notDigit, run}
-use Rattle.rules.specs.Replies.{startsWithCode, replyCode, replyEnd, lineOutside, lineInside, isOpen, replyLine, openingAfter, numbers, passivePort, passiveReply}
+use Rattle.rules.specs.Replies.{startsWithCode, replyCode, replyEnd, lineOutside, lineInside, isOpen, replyLine, openingAfter, numbers, passiveAt, passiveReply}
 use Rattle.rules.specs.declared.PassiveReply.{PassiveReply}
 use Rattle.rules.specs.declared.ReplyLine.{ReplyLine}
 use Rattle.octets.proofs.Choices.{either, by-test}
@@ -133,6 +133,6 @@ pub without-227 : (c : List ℕ) → startsWith227 c ≡ false → PassiveReply.
 unfolding startsWith227 passiveReply choose
 without-227 c h = rw h
 
-pub with-227 : (c : List ℕ) (from : ℕ) → startsWith227 c ≡ true → from ≡ 4 + run notDigit (drop 4 c) → passivePort (numbers 5 (drop from c)) ≡ passiveReply c
+pub with-227 : (c : List ℕ) (from : ℕ) → startsWith227 c ≡ true → from ≡ 4 + run notDigit (drop 4 c) → passiveAt (numbers 5 (drop from c)) ≡ passiveReply c
 unfolding startsWith227 passiveReply choose
 with-227 c from h e = rw (h, after-at notDigit c 4 from e)

@@ -5,12 +5,13 @@ use mathlib.Core.Option.{Option, none, some}
 use Prim.Native.Nat.{ℕ, suc, _+_, _-_, _*_, _<_, _≤_}
 use native.Mathlib.Omega.{arith}
 use lib.Dec.{eqb}
-use lib.ListN.{length, getD, drop, length-append, List·getD-append, List·getD-eq-default}
-use lib.Seq.{getD-drop, getD-at}
+use native.Mathlib.Numerals.{add-one}
+use lib.ListN.{length, getD, take, drop, set, length-set, List·getD-append, List·getD-eq-default}
+use lib.Seq.{getD-drop, getD-at, take-all, take-suc-set}
 use borrow.Author.Tests.{eq-eqb, ne-eqb}
 use Rattle.rules.specs.Octets.{comma, choose}
 use Rattle.rules.specs.Address.{both}
-use Rattle.rules.specs.Replies.{afterComma, numbers, passivePort}
+use Rattle.rules.specs.Replies.{afterComma, numbers, passiveAt}
 use Rattle.rules.specs.declared.PassiveReply.{PassiveReply}
 use Rattle.octets.proofs.Joining.{both-start, both-none, both-join}
 use Rattle.replies.specs.Numbers.{numberAt}
@@ -30,59 +31,68 @@ comma-missing : (s : List ℕ) (e : ℕ) (more : Option (List ℕ)) → (getD s 
 unfolding afterComma choose
 comma-missing s e more h = rw (ne-eqb _ comma (λ k. h (sym (first-at s e) ∙ k)))
 
--- ---- i numbers of the six that stand at `from` are read, the last one is `fifth`, and the others stand at `at`
+-- ---- i numbers of the six that stand at `from` are read, the first ones of `read`, and the others stand at `at`
 
-pub record Reading (s : List ℕ) (from at fifth i : ℕ) : Type 0 where
-  pub seen : List ℕ
-  pub count : length seen ≡ i
-  pub last : getD seen (i - 1) 0 ≡ fifth
-  pub rest : numbers 5 (drop from s) ≡ both (some seen) (numbers (5 - i) (drop at s))
+pub record Reading (s : List ℕ) (from at i : ℕ) (read : List ℕ) : Type 0 where
+  pub size : length read ≡ 5
+  pub rest : numbers 5 (drop from s) ≡ both (some (take i read)) (numbers (5 - i) (drop at s))
 
-pub begun : (s : List ℕ) (from : ℕ) → Reading s from from 0 0
-begun s from = record { seen = []; count = refl; last = refl; rest = sym (both-start (numbers 5 (drop from s))) }
+pub begun : (s : List ℕ) (from : ℕ) (read : List ℕ) → length read ≡ 5 → Reading s from from 0 read
+begun s from read h = record { size = h; rest = sym (both-start (numbers 5 (drop from s))) }
 
-module _ (s : List ℕ) (from at fifth i : ℕ) (r : Reading s from at fifth i) where
+module _ (s : List ℕ) (from at i : ℕ) (read : List ℕ) (r : Reading s from at i read) where
   -- one of the five with a comma
-  rest-more : (n e : ℕ) → i < 5 → NumberAt.Value n e ≡ numberAt s at → numbers 5 (drop from s) ≡ both (some (r .seen ++ (n ∷ []))) (afterComma (drop e s) (numbers (5 - (i + 1)) (drop (e + 1) s)))
+  rest-more : (n e : ℕ) → i < 5 → NumberAt.Value n e ≡ numberAt s at → numbers 5 (drop from s) ≡ both (some (take i read ++ (n ∷ []))) (afterComma (drop e s) (numbers (5 - (i + 1)) (drop (e + 1) s)))
   rest-more n e h v =
       let one : 5 - i ≡ suc (5 - (i + 1)) = omega arith in
-      r .rest ∙ rw (one, more-at s at n e (5 - (i + 1)) v) (both-join (r .seen) (n ∷ []) _)
+      r .rest ∙ rw (one, more-at s at n e (5 - (i + 1)) v) (both-join (take i read) (n ∷ []) _)
 
-  pub turned : (n e : ℕ) → i < 5 → NumberAt.Value n e ≡ numberAt s at → getD s e 0 ≡ comma → Reading s from (e + 1) n (i + 1)
+  pub turned : (n e : ℕ) → i < 5 → NumberAt.Value n e ≡ numberAt s at → getD s e 0 ≡ comma → Reading s from (e + 1) (i + 1) (set read i n)
   turned n e h v k =
+      let front : take (i + 1) (set read i n) ≡ take i read ++ (n ∷ []) = rw (add-one i) (take-suc-set read i n (omega (arith, r .size))) in
       record {
-        seen = r .seen ++ (n ∷ []);
-        count = rw length-append (omega (arith, r .count));
-        last = getD-at (r .seen) n [] 0 (i + 1 - 1) (omega (arith, r .count));
-        rest = rest-more n e h v ∙ ap (both _) (comma-there s e _ k);
+        size = length-set read i n ∙ r .size;
+        rest = rest-more n e h v ∙ (ap (both _) (comma-there s e _ k) ∙ ap (λ (l : List ℕ). both (some l) (numbers (5 - (i + 1)) (drop (e + 1) s))) (sym front));
       }
 
-  pub uncomma : (n e : ℕ) → i < 5 → NumberAt.Value n e ≡ numberAt s at → (getD s e 0 ≡ comma → ⊥) → PassiveReply.Unreadable ≡ passivePort (numbers 5 (drop from s))
-  unfolding passivePort
+  pub uncomma : (n e : ℕ) → i < 5 → NumberAt.Value n e ≡ numberAt s at → (getD s e 0 ≡ comma → ⊥) → PassiveReply.Unreadable ≡ passiveAt (numbers 5 (drop from s))
+  unfolding passiveAt
   uncomma n e h v k = rw (rest-more n e h v, comma-missing s e _ k, both-none)
 
-  pub cut : (n e : ℕ) → i < 5 → NumberAt.Value n e ≡ numberAt s at → length s ≤ e → PassiveReply.Unreadable ≡ passivePort (numbers 5 (drop from s))
+  pub cut : (n e : ℕ) → i < 5 → NumberAt.Value n e ≡ numberAt s at → length s ≤ e → PassiveReply.Unreadable ≡ passiveAt (numbers 5 (drop from s))
   cut n e h v k = uncomma n e h v (λ (x : getD s e 0 ≡ comma). omega (arith, List·getD-eq-default s 0 k))
 
-  pub unread : NumberAt.Unreadable ≡ numberAt s at → PassiveReply.Unreadable ≡ passivePort (numbers 5 (drop from s))
-  unfolding passivePort
+  pub unread : NumberAt.Unreadable ≡ numberAt s at → PassiveReply.Unreadable ≡ passiveAt (numbers 5 (drop from s))
+  unfolding passiveAt
   unread v = rw (r .rest, none-at s at (5 - i) v, both-none)
 
   -- the sixth
-  port : (n e : ℕ) → i ≡ 5 → NumberAt.Value n e ≡ numberAt s at → passivePort (numbers 5 (drop from s)) ≡ choose (eqb (fifth * 256 + n) 0) PassiveReply.Unreadable (PassiveReply.Port (fifth * 256 + n))
-  unfolding passivePort both
-  port n e h v =
-      let six : 5 - i ≡ 0 = omega arith in
-      let four : 4 ≡ i - 1 = omega arith in
-      let high : getD (r .seen ++ (n ∷ [])) 4 0 ≡ fifth =
-      List·getD-append (r .seen) (n ∷ []) 0 4 (omega (arith, r .count)) ∙ (ap (λ (k : ℕ). getD (r .seen) k 0) four ∙ r .last) in
-      let low : getD (r .seen ++ (n ∷ [])) 5 0 ≡ n = getD-at (r .seen) n [] 0 5 (r .count ∙ h) in
-      rw (r .rest, six, last-at s at n e v, high, low)
+  module _ (n e : ℕ) (h : i ≡ 5) (v : NumberAt.Value n e ≡ numberAt s at) where
+    six : numbers 5 (drop from s) ≡ some (read ++ (n ∷ []))
+    unfolding both
+    six =
+        let last : 5 - i ≡ 0 = omega arith in
+        let whole : take i read ≡ read = take-all i read (omega (arith, r .size)) in
+        r .rest ∙ rw (last, last-at s at n e v, whole)
 
-  pub no-port : (n e : ℕ) → i ≡ 5 → NumberAt.Value n e ≡ numberAt s at → fifth * 256 + n ≡ 0 → PassiveReply.Unreadable ≡ passivePort (numbers 5 (drop from s))
-  unfolding choose
-  no-port n e h v z = sym (port n e h v ∙ rw (eq-eqb _ 0 z))
+    one-of : (k : ℕ) → k < 5 → getD (read ++ (n ∷ [])) k 0 ≡ getD read k 0
+    one-of k l = List·getD-append read (n ∷ []) 0 k (omega (arith, r .size))
 
-  pub a-port : (n e : ℕ) → i ≡ 5 → NumberAt.Value n e ≡ numberAt s at → (fifth * 256 + n ≡ 0 → ⊥) → PassiveReply.Port (fifth * 256 + n) ≡ passivePort (numbers 5 (drop from s))
-  unfolding choose
-  a-port n e h v z = sym (port n e h v ∙ rw (ne-eqb _ 0 z))
+    abbrev port : ℕ
+    port = getD read 4 0 * 256 + n
+
+    named : passiveAt (numbers 5 (drop from s))
+        ≡ choose (eqb port 0) PassiveReply.Unreadable (PassiveReply.At (getD read 0 0) (getD read 1 0) (getD read 2 0) (getD read 3 0) port)
+    unfolding passiveAt
+    named =
+        let low : getD (read ++ (n ∷ [])) 5 0 ≡ n = getD-at read n [] 0 5 (r .size) in
+        rw (six, one-of 0 (omega arith), one-of 1 (omega arith), one-of 2 (omega arith), one-of 3 (omega arith), one-of 4 (omega arith), low)
+
+    pub no-port : port ≡ 0 → PassiveReply.Unreadable ≡ passiveAt (numbers 5 (drop from s))
+    unfolding choose
+    no-port z = sym (named ∙ rw (eq-eqb _ 0 z))
+
+    pub a-port : (port ≡ 0 → ⊥)
+        → PassiveReply.At (getD read 0 0) (getD read 1 0) (getD read 2 0) (getD read 3 0) port ≡ passiveAt (numbers 5 (drop from s))
+    unfolding choose
+    a-port z = sym (named ∙ rw (ne-eqb _ 0 z))

@@ -5,7 +5,7 @@ ghost use Prim.Native.Nat.{_+_, _-_, _≤_, _<_};
 ghost use lib.ListN.{length, drop};
 ghost use Rattle.rules.specs.Octets.{run, digit, notDigit};
 ghost use Rattle.rules.specs.Replies.{startsWithCode, replyCode, replyEnd, lineOutside, lineInside, replyLine};
-ghost use Rattle.rules.specs.Replies.{openingAfter, numbers, passivePort, passiveReply};
+ghost use Rattle.rules.specs.Replies.{openingAfter, numbers, passiveAt, passiveReply};
 ghost use Rattle.replies.specs.Codes.{startsWith227};
 ghost use Rattle.replies.specs.Numbers.{numberAt};
 use octets::Number;
@@ -183,14 +183,21 @@ fn number_at(s: &[u8], at: usize) -> NumberAt
     NumberAt::Value(n as u8, end)
 }
 
-// The port of the six numbers that stand at `from`. The first four are the address, which is ignored.
-fn port_at(s: &[u8], from: usize) -> PassiveReply
+fn wide(octet: u8) -> u16
+    ensures result { λ r. ⌜ r ≡ octet ⌝ }
+    ensures most { λ r. ⌜ r ≤ 255 ⌝ }
+{
+    octet as u16
+}
+
+// The address and the port of the six numbers that stand at `from`.
+fn named_at(s: &[u8], from: usize) -> PassiveReply
     requires { ⌜ from ≤ length (now s) ⌝ }
-    ensures { λ r. ⌜ r ≡ passivePort (numbers 5 (drop from (now (s .entry)))) ⌝ }
+    ensures { λ r. ⌜ r ≡ passiveAt (numbers 5 (drop from (now (s .entry)))) ⌝ }
 {
     let mut at = from;
-    // The number read last: the fifth, when the loop is through.
-    let mut fifth = 0;
+    // The numbers that a comma follows.
+    let mut read = [0u8; 5];
     let mut i: usize = 0;
     while i < 5 {
         let NumberAt::Value(n, end) = number_at(s, at) else {
@@ -202,21 +209,21 @@ fn port_at(s: &[u8], from: usize) -> PassiveReply
         if s[end] != b',' {
             return PassiveReply::Unreadable;
         }
-        fifth = n;
+        read[i] = n;
         at = end + 1;
         i += 1;
     }
     let NumberAt::Value(sixth, _) = number_at(s, at) else {
         return PassiveReply::Unreadable;
     };
-    let port = fifth as u16 * 256 + sixth as u16;
+    let port = wide(read[4]) * 256 + wide(sixth);
     if port == 0 {
         return PassiveReply::Unreadable;
     }
-    PassiveReply::Port(port)
+    PassiveReply::At(read[0], read[1], read[2], read[3], port)
 }
 
-// The port of a line with this content, if it is a 227 that can be read.
+// What a line with this content names, if it is a 227 that can be read.
 pub fn passive_reply(content: &[u8]) -> PassiveReply
     ensures { λ r. ⌜ r ≡ passiveReply (now (content .entry)) ⌝ }
 {
@@ -224,5 +231,5 @@ pub fn passive_reply(content: &[u8]) -> PassiveReply
         return PassiveReply::Unreadable;
     }
     let from = first_digit(content, 4);
-    port_at(content, from)
+    named_at(content, from)
 }

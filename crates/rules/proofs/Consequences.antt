@@ -1,5 +1,7 @@
--- What follows from demand 3 for any gateway that keeps it.
-use mathlib.Core.Path.{_≡_, sym, ap, _∙_}
+-- What follows from demand 3 for any gateway that keeps it, and which flags a setup may have.
+use mathlib.Core.Path.{_≡_, refl, sym, ap, _∙_}
+use Rattle.rules.specs.Octets.{octets-opened}
+use Rattle.rules.specs.Setup.{goodFlags, goodFrom, setup-opened}
 use Rattle.rules.specs.Items.{allToServer}
 use Rattle.rules.specs.Demand3.{Gateway, Demand3, piecesOf, SameHistory, SameClient}
 
@@ -14,3 +16,8 @@ any-same-history g demand su l m a b same =
     let q = demand su (b .first) (b .last) m (b .fresh) (b .calls) in
     let pieces : piecesOf g l ≡ piecesOf g m = p .pieces ∙ rw same (sym (q .pieces)) in
     (sym (p .joinedToServer) ∙ ap allToServer pieces ∙ q .joinedToServer, p .toClient ∙ rw same (sym (q .toClient)))
+
+-- of all 256 octets, `badFlags` is true of those that are not in the table, and of no other
+pub good-flags : goodFrom 256 0 ≡ goodFlags
+unfolding octets-opened setup-opened
+good-flags = refl

@@ -20,6 +20,7 @@ use Rattle.rules.specs.Exchanges.{
   exchanges,
   multiLineExchanges,
   telnetExchanges,
+  strictExchanges,
   removals,
   readAs,
   spokenIn,
@@ -40,6 +41,10 @@ multi-line-exchanges = refl
 pub telnet-exchanges : map readAs telnetExchanges ≡ map printed telnetExchanges
 unfolding octets-opened setup-opened lines-opened address-opened commands-opened replies-opened edition-opened history-opened to-server-opened to-client-opened answers-opened telnet-opened items-opened exchanges-opened
 telnet-exchanges = refl
+
+pub strict-exchanges : map readAs strictExchanges ≡ map printed strictExchanges
+unfolding octets-opened setup-opened lines-opened address-opened commands-opened replies-opened edition-opened history-opened to-server-opened to-client-opened answers-opened telnet-opened items-opened exchanges-opened
+strict-exchanges = refl
 
 pub telnet-spoken : map spokenIn telnetExchanges ≡ map spokenOf telnetExchanges
 unfolding octets-opened setup-opened lines-opened address-opened commands-opened replies-opened edition-opened history-opened to-server-opened to-client-opened answers-opened telnet-opened items-opened pieces-opened exchanges-opened

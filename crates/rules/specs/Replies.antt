@@ -1,4 +1,4 @@
--- "Server lines", as request 1 of document 02 leaves them: which lines open, belong to and end a reply; the 227 reader, the
+-- "Server lines", as requests 1 and 4 of document 02 leave them: which lines open, belong to and end a reply; the 227 reader, the
 -- lines that the gateway writes, and the queue.
 use mathlib.Core.Bool.{Bool, true, false, not, _&&_, _||_}
 use mathlib.Core.List.{List, [], _∷_, _++_}
@@ -12,6 +12,7 @@ use Rattle.rules.specs.Lines.{unchanged, content}
 use Rattle.rules.specs.declared.OwnAnswer.{OwnAnswer}
 use Rattle.rules.specs.declared.OwnAnswer.the-variants.{ProtocolNotSupported, ParameterNotImplemented, State}
 use Rattle.rules.specs.declared.Kind.{Kind}
+use Rattle.rules.specs.declared.Fixed.{Fixed}
 use Rattle.rules.specs.declared.ReplyLine.{ReplyLine}
 use Rattle.rules.specs.declared.ReplyLine.the-variants.{Opens, Belongs, Preliminary, Final, StandsAlone}
 use Rattle.rules.specs.declared.PassiveReply.{PassiveReply}
@@ -71,22 +72,28 @@ unfoldable pub numbers : ℕ → List ℕ → Option (List ℕ)
 numbers zero t = octetNumber (front digit t)
 numbers (suc k) t = let u = after digit t in both (octetNumber (front digit t)) (afterComma u (numbers k (drop 1 u)))
 
--- "The port is the fifth times 256 plus the sixth; if not 0"
-unfoldable pub passivePort : Option (List ℕ) → PassiveReply
-passivePort none = PassiveReply.Unreadable
-passivePort (some ns) =
-    let p = getD ns 4 0 * 256 + getD ns 5 0 in choose (eqb p 0) PassiveReply.Unreadable (PassiveReply.Port p)
+-- the first four numbers are an address; "The port is the fifth times 256 plus the sixth; if not 0"
+unfoldable pub passiveAt : Option (List ℕ) → PassiveReply
+passiveAt none = PassiveReply.Unreadable
+passiveAt (some ns) =
+    let p = getD ns 4 0 * 256 + getD ns 5 0 in
+    choose (eqb p 0) PassiveReply.Unreadable
+    (PassiveReply.At (getD ns 0 0) (getD ns 1 0) (getD ns 2 0) (getD ns 3 0) p)
 
 -- "the code is 227"; "read six numbers from the first digit after the code's space"
 unfoldable pub passiveReply : List ℕ → PassiveReply
 passiveReply c =
-    choose (equal (take 4 c) (oct "227 ")) (passivePort (numbers 5 (after notDigit (drop 4 c)))) PassiveReply.Unreadable
+    choose (equal (take 4 c) (oct "227 ")) (passiveAt (numbers 5 (after notDigit (drop 4 c)))) PassiveReply.Unreadable
 
 -- ---- the lines that the gateway writes to the client
 
 -- "`229 Entering Extended Passive Mode (|||port|)`"
 unfoldable pub extendedPassiveLine : ℕ → List ℕ
 extendedPassiveLine p = oct "229 Entering Extended Passive Mode (|||" ++ (decimal p ++ oct "|)\r\n")
+
+-- by request 4 of document 02, "gives the client `425 Can't open data connection.` instead of the 229"
+unfoldable pub cannotOpenLine : List ℕ
+cannotOpenLine = oct "425 Can't open data connection.\r\n"
 
 -- "`216` and NONE, EPSV, EPRT or EPSVEPRT"
 unfoldable pub stateLine : Bool → Bool → List ℕ
@@ -103,17 +110,22 @@ answerLine (State sw) = stateLine (sw .epsv) (sw .eprt)
 
 -- ---- a line that ends a final reply
 
--- "if not 0 the line becomes `229 Entering Extended Passive Mode (|||port|)`. Otherwise it passes"
-unfoldable pub passiveGives : List ℕ → PassiveReply → List ℕ
-passiveGives l PassiveReply.Unreadable = unchanged l
-passiveGives l (PassiveReply.Port p) = extendedPassiveLine p
+-- request 4: "with setup flag bit 3 on", "whose address differs from the control channel's server address"
+unfoldable pub foreign : Fixed → List ℕ → Bool
+foreign f address = f .strict && not (equal address (f .server))
+
+-- "if not 0 the line becomes `229 ..`. Otherwise it passes"; request 4: "gives the client `425 ..` instead of the 229"
+unfoldable pub passiveGives : Fixed → List ℕ → PassiveReply → List ℕ
+passiveGives f l PassiveReply.Unreadable = unchanged l
+passiveGives f l (PassiveReply.At a b c d p) =
+    choose (foreign f (a ∷ b ∷ c ∷ d ∷ [])) cannotOpenLine (extendedPassiveLine p)
 
 -- what it becomes by the first kind owed, if it is judged whole and no earlier line belongs to its reply
-unfoldable pub finalGives : Kind → List ℕ → List ℕ
-finalGives Kind.Plain l = unchanged l
-finalGives Kind.TranslatedEpsv l = passiveGives l (passiveReply (content l))
-finalGives (Kind.Own a) l = unchanged l
-finalGives Kind.Auth l = unchanged l
+unfoldable pub finalGives : Fixed → Kind → List ℕ → List ℕ
+finalGives f Kind.Plain l = unchanged l
+finalGives f Kind.TranslatedEpsv l = passiveGives f l (passiveReply (content l))
+finalGives f (Kind.Own a) l = unchanged l
+finalGives f Kind.Auth l = unchanged l
 
 -- ---- the queue
 
@@ -163,5 +175,5 @@ authAtHead (k ∷ ks) = isAuth k
 
 -- this page's definitions, for a proof that computes with them
 unfoldable pub replies-opened : Unit {0}
-unfolding startsWithCode replyCode replyEnd lineOutside lineInside replyLine afterComma numbers passivePort passiveReply extendedPassiveLine stateLine answerLine passiveGives finalGives removed owedAfter headAnswers withoutAnswers authAtHead
+unfolding startsWithCode replyCode replyEnd lineOutside lineInside replyLine afterComma numbers passiveAt passiveReply extendedPassiveLine cannotOpenLine stateLine answerLine foreign passiveGives finalGives removed owedAfter headAnswers withoutAnswers authAtHead
 replies-opened = tt

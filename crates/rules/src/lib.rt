@@ -32,26 +32,30 @@ pub struct Switches {
     pub eprt: bool,
 }
 
-// How many octets the two addresses have.
+// How many octets an address of either kind has.
 pub const IPV6: usize = 16;
 
 pub const IPV4: usize = 4;
 
-// And a setup: both addresses and the flags.
-pub const SETUP: usize = IPV6 + IPV4 + 1;
+// And a setup: the client's two addresses, the flags, and the server's address.
+pub const SETUP: usize = IPV6 + IPV4 + 1 + IPV4;
 
-// What a setup gives: the client's address, its mapped address, and the flags.
+// What a setup gives: the client's address, its mapped address, the flags, and the server's address.
 pub struct Setup {
     pub client: [u8; IPV6],
     pub mapped: [u8; IPV4],
     pub flags: u8,
+    pub server: [u8; IPV4],
 }
 
-// What a setup fixes for the whole session: the client's address, its mapped address, and whether EPRT is supported.
+// What a setup fixes for the whole session: the client's address, its mapped address, the server's address, whether
+// EPRT is supported, and whether a 227 that names another address than the server's is refused.
 pub struct Fixed {
     pub client: [u8; IPV6],
     pub mapped: [u8; IPV4],
+    pub server: [u8; IPV4],
     pub supported: bool,
+    pub strict: bool,
 }
 
 // The gateway's own answers: 522, 504, and 216 with the state of the switches.
@@ -172,9 +176,9 @@ pub struct TelnetStep {
     pub does: Does,
 }
 
-// The port of a 227 line.
+// What a 227 line names: the four octets of an address, and a port.
 pub enum PassiveReply {
-    Port(u16),
+    At(u8, u8, u8, u8, u16),
     Unreadable,
 }
 

@@ -30,18 +30,18 @@ module _ (su : Setup) {n : ℕ} (flags : n ≡ su .flags) where
   unfolding prepared setupAnswer choose
   refused-flags h = rw (← flags, h)
 
-  pub undefined-flag : (n / 2 ^ 3 ≡ 0 → ⊥) → refusedSetup ≡ prepared su
+  pub undefined-flag : (n / 2 ^ 4 ≡ 0 → ⊥) → refusedSetup ≡ prepared su
   unfolding badFlags
-  undefined-flag h = refused-flags (rw (le-leb 8 n (omega arith)))
+  undefined-flag h = refused-flags (rw (le-leb 16 n (omega arith)))
 
-  pub unsupported : n / 2 ^ 3 ≡ 0 → shifted 2 n ≡ true → not (shifted 1 n) ≡ true
+  pub unsupported : n / 2 ^ 4 ≡ 0 → shifted 2 n ≡ true → not (shifted 1 n) ≡ true
       → refusedSetup ≡ prepared su
   unfolding badFlags
-  unsupported h on not-supported = refused-flags (rw (lt-leb 8 n (omega arith), ← flag 2 n, on, ← flag 1 n, not-supported))
+  unsupported h on not-supported = refused-flags (rw (lt-leb 16 n (omega arith), ← flag 2 n, on, ← flag 1 n, not-supported))
 
   -- the flags are good, whichever of the two tests said so
-  pub fresh : n / 2 ^ 3 ≡ 0 → (shifted 2 n && not (shifted 1 n)) ≡ false → {s : Session}
-      → s ≡ startSession true (record { client = su .client; mapped = su .mapped; supported = shifted 1 n }) (startControl (record { epsv = eqb (bitAnd n 1) 1; eprt = shifted 2 n }) 1)
+  pub fresh : n / 2 ^ 4 ≡ 0 → (shifted 2 n && not (shifted 1 n)) ≡ false → {s : Session}
+      → s ≡ startSession true (record { client = su .client; mapped = su .mapped; server = su .server; supported = shifted 1 n; strict = shifted 3 n }) (startControl (record { epsv = eqb (bitAnd n 1) 1; eprt = shifted 2 n }) 1)
       → _≡_ {A = Prepared} (record { answer = Answer.Done; session = s }) (prepared su)
   unfolding prepared setupAnswer choose badFlags freshSession setupSwitches
-  fresh h good e = rw (e, ← flags, lt-leb 8 n (omega arith), ← flag 2 n, ← flag 1 n, good, ← low-flag n)
+  fresh h good e = rw (e, ← flags, lt-leb 16 n (omega arith), ← flag 3 n, ← flag 2 n, ← flag 1 n, good, ← low-flag n)

@@ -81,7 +81,14 @@ freshSession su = startSession true (fixedBy su) (startControl (setupSwitches (s
 -- "With 5 the record is not live and otherwise all zero"
 unfoldable pub deadSession : Session
 deadSession =
-    startSession false (record { client = replicate ipv6Width 0; mapped = replicate ipv4Width 0; supported = false })
+    startSession false
+    (record {
+      client = replicate ipv6Width 0;
+      mapped = replicate ipv4Width 0;
+      server = replicate ipv4Width 0;
+      supported = false;
+      strict = false;
+    })
     (startControl (record { epsv = false; eprt = false }) 0)
 
 -- "Setup gives ..": the answer, and the record that it leaves

@@ -31,6 +31,7 @@ use records::layout::LENT_COMMAND;
 use records::layout::LENT_KINDS;
 use records::layout::LENT_MAPPED;
 use records::layout::LENT_REPLY;
+use records::layout::LENT_SERVER;
 use records::layout::LENT_SIZE;
 use records::refusal_of;
 use records::unfinished_of;
@@ -86,7 +87,8 @@ pub fn setup(setup: Setup) -> Prepared
     let epsv = flags & 1 == 1;
     let supported = (flags >> 1) & 1 == 1;
     let eprt = (flags >> 2) & 1 == 1;
-    if flags >> 3 != 0 {
+    let strict = (flags >> 3) & 1 == 1;
+    if flags >> 4 != 0 {
         return refused_setup();
     }
     if eprt && !supported {
@@ -94,10 +96,13 @@ pub fn setup(setup: Setup) -> Prepared
     }
     let client = setup.client;
     let mapped = setup.mapped;
+    let server = setup.server;
     let fixed = Fixed {
         client,
         mapped,
+        server,
         supported,
+        strict,
     };
     Prepared {
         answer: Answer::Done,
@@ -114,10 +119,12 @@ pub fn setup_from(octets: &[u8]) -> Prepared
     }
     let client = ipv6_from(&octets[..IPV6]);
     let mapped = ipv4_from(&octets[IPV6..IPV6 + IPV4]);
+    let server = ipv4_from(&octets[IPV6 + IPV4 + 1..SETUP]);
     setup(Setup {
         client,
         mapped,
         flags: octets[IPV6 + IPV4],
+        server,
     })
 }
 
@@ -169,7 +176,9 @@ pub fn refused_setup() -> Prepared
     let none = Fixed {
         client: [0u8; IPV6],
         mapped: [0u8; IPV4],
+        server: [0u8; IPV4],
         supported: false,
+        strict: false,
     };
     Prepared {
         answer: Answer::BadSetup,
@@ -204,13 +213,15 @@ pub fn arrive(
     let fixed = session.fixed;
     let client = fixed.client;
     let mapped = fixed.mapped;
+    let server = fixed.server;
     let control = session.control;
     let kinds = session.kinds;
     let said = session.command;
     let answered = session.reply;
-    let mut lent = laid(client, mapped, kinds, said, answered);
+    let mut lent = laid(client, mapped, server, kinds, said, answered);
     let t = take(
         fixed.supported,
+        fixed.strict,
         from_client,
         control,
         octets,
@@ -245,18 +256,20 @@ pub fn arrive(
 fn laid(
     client: [u8; IPV6],
     mapped: [u8; IPV4],
+    server: [u8; IPV4],
     kinds: Kinds,
     command: Line,
     reply: Line,
 ) -> [u8; LENT_SIZE]
-    ensures arrays { λ r. ⌜ r ≡ client ++ (mapped ++ (kinds ++ (command ++ reply))) ⌝ }
+    ensures arrays { λ r. ⌜ r ≡ client ++ (mapped ++ (server ++ (kinds ++ (command ++ reply)))) ⌝ }
     ensures lengths { λ _.
-        ⌜ (length client ≡ ipv6Width) × (length mapped ≡ ipv4Width) × (length kinds ≡ mostOwed)
-        × (length command ≡ mostHeld) × (length reply ≡ mostHeld) ⌝ }
+        ⌜ (length client ≡ ipv6Width) × (length mapped ≡ ipv4Width) × (length server ≡ ipv4Width)
+        × (length kinds ≡ mostOwed) × (length command ≡ mostHeld) × (length reply ≡ mostHeld) ⌝ }
 {
     let mut lent = [0u8; LENT_SIZE];
     put(&mut lent, 0, &client);
     put(&mut lent, LENT_MAPPED, &mapped);
+    put(&mut lent, LENT_SERVER, &server);
     put(&mut lent, LENT_KINDS, &kinds);
     put(&mut lent, LENT_COMMAND, &command);
     put(&mut lent, LENT_REPLY, &reply);

@@ -10,7 +10,7 @@ use borrow.Rule.Slice.PartMut.{putMid, midOf, postOf, same-len-mid, set-mid-at}
 use Rattle.rules.specs.Lines.{mostHeld}
 use Rattle.rules.specs.Answers.{mostOwed}
 use Rattle.rules.specs.Setup.{ipv6Width, ipv4Width}
-use Rattle.records.specs.Layout.{lentMapped, lentKinds, lentCommand, lentReply, lentSize, linesSize}
+use Rattle.records.specs.Layout.{lentMapped, lentServerAddress, lentKinds, lentCommand, lentReply, lentSize, linesSize}
 use Rattle.records.specs.declared.Control.{Control}
 use Rattle.steps.specs.Takes.{commandIn, replyIn, stateFrom, addressesLent, fixedLent, kindsLent, linesLent, stateLent}
 
@@ -63,13 +63,21 @@ module _ (lent : List ℕ) (all : length lent ≡ lentSize) where
   pub lines-size : length (linesLent lent) ≡ linesSize
   lines-size = length-drop lentCommand lent ∙ omega (arith, all)
 
-  -- what a setup fixed is as it was where the addresses are
-  pub fixed-same : (before : List ℕ) → length before ≡ lentSize → addressesLent lent ≡ addressesLent before → (supported : Bool)
-      → fixedLent supported lent ≡ fixedLent supported before
-  fixed-same before size e supported =
+  -- an address behind the client's is as it was where all of them are
+  address-same : (before : List ℕ) → length before ≡ lentSize → addressesLent lent ≡ addressesLent before → (b : ℕ) → b + ipv4Width ≤ lentKinds
+      → take ipv4Width (drop b lent) ≡ take ipv4Width (drop b before)
+  address-same before size e b h =
+      let front = sym (take-take (b + ipv4Width) lentKinds lent h) ∙ (ap (take (b + ipv4Width)) e ∙ take-take (b + ipv4Width) lentKinds before h) in
+      from-front b ipv4Width lent (omega (arith, all)) ∙ (ap (drop b) front ∙ sym (from-front b ipv4Width before (omega arith)))
+
+  -- and so is what a setup fixed
+  pub fixed-same : (before : List ℕ) → length before ≡ lentSize → addressesLent lent ≡ addressesLent before → (supported strict : Bool)
+      → fixedLent supported strict lent ≡ fixedLent supported strict before
+  fixed-same before size e supported strict =
       let client = sym (take-take ipv6Width lentKinds lent (omega arith)) ∙ (ap (take ipv6Width) e ∙ take-take ipv6Width lentKinds before (omega arith)) in
-      let mapped = from-front lentMapped ipv4Width lent (omega arith) ∙ (ap (drop lentMapped) e ∙ sym (from-front lentMapped ipv4Width before (omega arith))) in
-      λ i. record { client = client i; mapped = mapped i; supported = supported }
+      let mapped = address-same before size e lentMapped (omega arith) in
+      let server = address-same before size e lentServerAddress (omega arith) in
+      λ i. record { client = client i; mapped = mapped i; server = server i; supported = supported; strict = strict }
 
   -- the kinds
   module _ (p : List ℕ) (size : length p ≡ mostOwed) where
@@ -113,7 +121,7 @@ module _ (lent : List ℕ) (all : length lent ≡ lentSize) where
         let reply = drop-drop mostHeld lentCommand (putMid lentReply mostHeld lent p) ∙ (from ∙ (ap (λ (l : List ℕ). p ++ l) none ∙ append-nil p)) in
         λ i. stateFrom c (command i) (reply i) (reply-kinds i)
 
-  -- both lines, lent as the octets from 36 to the slice's length
+  -- both lines, lent as the octets from 40 to the slice's length
   pub lines-lent : midOf lentCommand (length lent - lentCommand) lent ≡ linesLent lent
   lines-lent = take-all (length lent - lentCommand) (drop lentCommand lent) (omega (arith, length-drop lentCommand lent))
 

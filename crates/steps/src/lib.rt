@@ -20,6 +20,7 @@ use records::holdable;
 use records::layout::LENT_COMMAND;
 use records::layout::LENT_KINDS;
 use records::layout::LENT_MAPPED;
+use records::layout::LENT_SERVER;
 use records::layout::LENT_SIZE;
 use records::queue_full;
 use rules::Answer;
@@ -50,16 +51,19 @@ struct Fitted {
 }
 
 // What a setup fixed, as it is lent.
-fn fixed_in(supported: bool, lent: &[u8]) -> Fixed
+fn fixed_in(supported: bool, strict: bool, lent: &[u8]) -> Fixed
     requires { ⌜ length (now lent) ≡ lentSize ⌝ }
-    ensures { λ r. ⌜ r ≡ fixedLent supported (now (lent .entry)) ⌝ }
+    ensures { λ r. ⌜ r ≡ fixedLent supported strict (now (lent .entry)) ⌝ }
 {
     let client = ipv6_from(&lent[..LENT_MAPPED]);
-    let mapped = ipv4_from(&lent[LENT_MAPPED..LENT_KINDS]);
+    let mapped = ipv4_from(&lent[LENT_MAPPED..LENT_SERVER]);
+    let server = ipv4_from(&lent[LENT_SERVER..LENT_KINDS]);
     Fixed {
         client,
         mapped,
+        server,
         supported,
+        strict,
     }
 }
 
@@ -98,6 +102,7 @@ fn within(control: Control, lent: usize, server: usize, client: usize, written: 
 // can't be, or where it has to wait, all is left as it was.
 pub fn next_octet(
     supported: bool,
+    strict: bool,
     from_client: bool,
     control: Control,
     x: u8,
@@ -112,7 +117,7 @@ pub fn next_octet(
         (r .written) in
         let can = isWithin control (length (now (lent .entry))) (length (now («to_server» .entry)))
         (length (now («to_client» .entry))) written in
-        let t = tookNext can (fixedLent supported (now (lent .entry))) (sideIf «from_client») x k in
+        let t = tookNext can (fixedLent supported strict (now (lent .entry))) (sideIf «from_client») x k in
         ⌜ (r .answer ≡ t .answer) × (m ≡ coreBehind t k) ⌝ }
     ensures fixed { λ _. ⌜ addressesLent (now (lent .exit)) ≡ addressesLent (now (lent .entry)) ⌝ }
     ensures counts { λ r. ⌜ (Counted control → Counted (r .control)) ⌝ }
@@ -131,6 +136,7 @@ pub fn next_octet(
     }
     let o = lent_octet(
         supported,
+        strict,
         from_client,
         control,
         x,
@@ -160,6 +166,7 @@ fn answered(answer: Answer, control: Control, written: Written) -> Next
 // The same where the counts can be held and the queue is not full.
 fn lent_octet(
     supported: bool,
+    strict: bool,
     from_client: bool,
     control: Control,
     x: u8,
@@ -176,10 +183,10 @@ fn lent_octet(
         let k = coreLent control (now (lent .entry)) (now («to_server» .entry)) (now («to_client» .entry)) written in
         let m = coreLent (r .control) (now (lent .exit)) (now («to_server» .exit)) (now («to_client» .exit))
         (r .written) in
-        ⌜ Stepped (fixedLent supported (now (lent .entry))) (sideIf «from_client») x k (r .fits) m ⌝ }
+        ⌜ Stepped (fixedLent supported strict (now (lent .entry))) (sideIf «from_client») x k (r .fits) m ⌝ }
     ensures fixed { λ _. ⌜ addressesLent (now (lent .exit)) ≡ addressesLent (now (lent .entry)) ⌝ }
 {
-    let fixed = fixed_in(supported, lent);
+    let fixed = fixed_in(supported, strict, lent);
     let kinds = kinds_in(lent);
     let o = any_octet(
         fixed,

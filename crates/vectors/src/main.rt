@@ -129,7 +129,9 @@ fn put_command(out: &mut [u8], line: &[u8]) -> usize {
     let fixed = Fixed {
         client: CLIENT,
         mapped: MAPPED,
+        server: MAPPED,
         supported: true,
+        strict: false,
     };
     match commands::command(line, fixed, on) {
         Command::Passes => output::put(out, 0, b"passes\n"),
@@ -160,7 +162,7 @@ fn put_opens(out: &mut [u8], code: u32) -> usize {
 
 fn put_passive_reply(out: &mut [u8], content: &[u8]) -> usize {
     match replies::passive_reply(content) {
-        PassiveReply::Port(port) => writers::put_extended_passive(out, 0, port),
+        PassiveReply::At(_, _, _, _, port) => writers::put_extended_passive(out, 0, port),
         PassiveReply::Unreadable => output::put(out, 0, b"passes\n"),
     }
 }

@@ -10,7 +10,7 @@ ghost use mathlib.Core.List.{[], _∷_, _++_};
 ghost use Prim.Native.Nat.{_≤_};
 ghost use lib.ListN.{length};
 ghost use Rattle.rules.specs.Commands.{commas, pasvLine, portLine};
-ghost use Rattle.rules.specs.Replies.{extendedPassiveLine};
+ghost use Rattle.rules.specs.Replies.{extendedPassiveLine, cannotOpenLine};
 ghost use Rattle.output.specs.Buffer.{Put, PutInRoom};
 
 pub fn pasv_length() -> usize
@@ -41,6 +41,18 @@ pub fn put_extended_passive(out: &mut [u8], at: usize, port: u16) -> usize
     let mut next = put(out, at, b"229 Entering Extended Passive Mode (|||");
     next = put_decimal(out, next, port);
     put(out, next, b"|)\r\n")
+}
+
+pub fn cannot_open_length() -> usize
+    ensures { λ r. ⌜ r ≡ length cannotOpenLine ⌝ }
+{
+    33
+}
+
+pub fn put_cannot_open(out: &mut [u8], at: usize) -> usize
+    ensures { λ r. ⌜ Put (now (out .entry)) at cannotOpenLine r (now (out .exit)) ⌝ }
+{
+    put(out, at, b"425 Can't open data connection.\r\n")
 }
 
 pub fn port_line_length(mapped: [u8; IPV4], port: u16) -> usize

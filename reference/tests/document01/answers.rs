@@ -183,7 +183,7 @@ fn held_octets_need_no_room() {
 
 #[test]
 fn number_3_for_every_other_direction() {
-    let (dead, _) = Gateway::setup(CLIENT_ADDRESS, MAPPED, 8);
+    let (dead, _) = Gateway::setup(CLIENT_ADDRESS, MAPPED, 16, SERVER_ADDRESS);
     for direction in 2..=255 {
         check_refused(&mut greeted(ALL_ON), 3, direction);
         check_refused(&mut dead.clone(), 3, direction);
@@ -195,7 +195,7 @@ fn number_3_for_every_other_direction() {
 
 #[test]
 fn number_4_after_a_refused_setup() {
-    let (mut gateway, answer) = Gateway::setup(CLIENT_ADDRESS, MAPPED, 4);
+    let (mut gateway, answer) = Gateway::setup(CLIENT_ADDRESS, MAPPED, 4, SERVER_ADDRESS);
     assert_eq!(answer, 5);
     check_refused(&mut gateway, 4, CLIENT);
     check_refused(&mut gateway, 4, SERVER);
@@ -205,10 +205,10 @@ fn number_4_after_a_refused_setup() {
 /// "With 5 the record is not live and otherwise all zero": the addresses too.
 #[test]
 fn number_5_for_bad_flags() {
-    let (dead, _) = Gateway::setup([0; 16], [0; 4], 255);
+    let (dead, _) = Gateway::setup([0; 16], [0; 4], 255, [0; 4]);
     for flags in 0..=255 {
-        let (gateway, answer) = Gateway::setup(CLIENT_ADDRESS, MAPPED, flags);
-        let good = [0, 1, 2, 3, 6, 7].contains(&flags);
+        let (gateway, answer) = Gateway::setup(CLIENT_ADDRESS, MAPPED, flags, SERVER_ADDRESS);
+        let good = [0, 1, 2, 3, 6, 7, 8, 9, 10, 11, 14, 15].contains(&flags);
         assert_eq!(answer, if good { 0 } else { 5 }, "flags {flags}");
         assert_eq!(gateway == dead, !good, "flags {flags}");
     }

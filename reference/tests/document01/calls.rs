@@ -3,13 +3,16 @@
 use reference::calls::run_calls;
 
 use crate::random::Random;
-use crate::talk::{Gateway, CLIENT_ADDRESS, EXTENDED_PASSIVE, MAPPED, NOT_SUPPORTED, PASSIVE};
+use crate::talk::{
+    Gateway, CLIENT_ADDRESS, EXTENDED_PASSIVE, MAPPED, NOT_SUPPORTED, NO_CONNECTION, PASSIVE,
+    SERVER_ADDRESS,
+};
 
 const ARRIVAL: u8 = 0;
 const END: u8 = 1;
 
 fn setup(flags: u8) -> Vec<u8> {
-    [&CLIENT_ADDRESS[..], &MAPPED, &[flags]].concat()
+    [&CLIENT_ADDRESS[..], &MAPPED, &[flags], &SERVER_ADDRESS].concat()
 }
 
 fn call(kind: u8, direction: u8, rooms: [u16; 2], octets: &[u8]) -> Vec<u8> {
@@ -98,6 +101,27 @@ fn results_of_calls() {
     }
 }
 
+/// A setup's last four octets are the server's address.
+#[test]
+fn a_strict_script() {
+    let own = b"227 198,51,100,7,237,19\n";
+    let calls = [
+        call(ARRIVAL, 1, [9, 9], b"220\n"),
+        call(ARRIVAL, 0, [99, 0], b"EPSV\nEPSV\n"),
+        call(ARRIVAL, 1, [0, 99], PASSIVE.as_bytes()),
+        call(ARRIVAL, 1, [0, 99], own),
+    ];
+    let expected = [
+        vec![0],
+        result(0, 4, b"", b"220\n", [0, 0]),
+        result(0, 10, b"PASV\r\nPASV\r\n", b"", [2, 0]),
+        result(0, 47, b"", NO_CONNECTION.as_bytes(), [2, -14]),
+        result(0, 24, b"", EXTENDED_PASSIVE.as_bytes(), [2, 10]),
+    ];
+    let script = [setup(9), calls.concat()].concat();
+    assert_eq!(run_calls(&script), expected.concat());
+}
+
 /// "A script that is cut short ends at the last whole call."
 #[test]
 fn scripts_cut_short() {
@@ -119,7 +143,7 @@ fn scripts_cut_short() {
 #[test]
 fn a_refused_setup_runs_on() {
     let call = [call(ARRIVAL, 0, [9, 9], b"x"), call(END, 7, [9, 9], b"")].concat();
-    let script = [setup(8), call].concat();
+    let script = [setup(16), call].concat();
     let expected = [
         vec![5],
         result(4, 0, b"", b"", [0, 0]),
@@ -156,8 +180,8 @@ fn most_room() {
 fn any_octets() {
     let mut random = Random::new(8);
     for _ in 0..20_000 {
-        let mut script: Vec<u8> = (0..20).map(|_| random.octet()).collect();
-        script.push(random.below(9) as u8);
+        let mut script: Vec<u8> = (0..25).map(|_| random.octet()).collect();
+        script[20] = random.below(17) as u8;
         for _ in 0..random.below(200) {
             let small = random.octet() % 3;
             script.push(if random.one_in(3) {
@@ -166,7 +190,7 @@ fn any_octets() {
                 small
             });
         }
-        let (_, answer) = Gateway::setup(CLIENT_ADDRESS, MAPPED, script[20]);
+        let (_, answer) = Gateway::setup(CLIENT_ADDRESS, MAPPED, script[20], SERVER_ADDRESS);
         assert_eq!(run_calls(&script)[0], answer);
     }
 }

@@ -7,11 +7,13 @@ use reference::queue::Owed;
 use crate::layer::{Does, Layer};
 use crate::random::{auth_inside_a_command, session, Item, Random};
 use crate::talk::{
-    fresh, Gateway, Outcome, ALL_ON, CLIENT, CLIENT_ADDRESS, MAPPED, PLENTY, SERVER,
+    fresh, Gateway, Outcome, ALL_ON, CLIENT, CLIENT_ADDRESS, MAPPED, PLENTY, SERVER, STRICT,
 };
 
 /// The flags that setup takes.
-const FLAGS: [u8; 6] = [0, 1, 2, 3, 6, 7];
+const FLAGS: [u8; 12] = [0, 1, 2, 3, 6, 7, 8, 9, 10, 11, 14, 15];
+/// All on, in the strict form too.
+const MOST_ON: [u8; 2] = [ALL_ON, ALL_ON | STRICT];
 
 /// All that came of one side's arrivals: the last answer, and the rest joined.
 fn join(first: Outcome, second: Outcome) -> Outcome {
@@ -68,8 +70,9 @@ fn a_cut_at_every_place_changes_nothing() {
 #[test]
 fn octet_by_octet_changes_nothing() {
     let mut random = Random::new(2);
-    for _ in 0..300 {
-        let (mut whole, mut split) = (fresh(ALL_ON), fresh(ALL_ON));
+    for round in 0..300 {
+        let flags = MOST_ON[round % MOST_ON.len()];
+        let (mut whole, mut split) = (fresh(flags), fresh(flags));
         let (mut of_whole, mut of_split) = (Outcome::default(), Outcome::default());
         for item in session(&mut random, 30) {
             of_whole = join(of_whole, run(&mut whole, &item));
@@ -103,8 +106,9 @@ fn split_into_octets(item: &Item) -> Vec<Item> {
 #[test]
 fn little_room_changes_nothing() {
     let mut random = Random::new(3);
-    for _ in 0..300 {
-        let (mut roomy, mut tight) = (fresh(ALL_ON), fresh(ALL_ON));
+    for round in 0..300 {
+        let flags = MOST_ON[round % MOST_ON.len()];
+        let (mut roomy, mut tight) = (fresh(flags), fresh(flags));
         for item in session(&mut random, 20) {
             let uncut = run(&mut roomy, &item);
             let outcome = run_tight(&mut tight, &item, &mut random);
@@ -300,7 +304,8 @@ fn lines_to_server(flags: u8, said: &[u8], ended: bool) -> (Vec<u8>, bool) {
         client: CLIENT_ADDRESS,
         mapped: MAPPED,
     };
-    let mut switches = Switches::of_flags(flags).expect("defined flags");
+    // The strict flag says nothing of client lines.
+    let mut switches = Switches::of_flags(flags & ALL_ON).expect("defined flags");
     let mut given = Vec::new();
     let mut rest = said;
     while let Some(lf) = rest.iter().position(|&octet| octet == b'\n') {

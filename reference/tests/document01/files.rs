@@ -6,7 +6,7 @@ use std::process::{Command, Output, Stdio};
 
 use reference::files::report;
 
-use crate::talk::{CLIENT_ADDRESS, MAPPED};
+use crate::talk::{CLIENT_ADDRESS, MAPPED, SERVER_ADDRESS};
 
 const CLIENT_OCTETS: u8 = 0;
 const SERVER_OCTETS: u8 = 1;
@@ -23,7 +23,7 @@ const PRINTED: &str = r"FTP64 REPORT 4
 ";
 
 fn setup(flags: u8) -> Vec<u8> {
-    [&CLIENT_ADDRESS[..], &MAPPED, &[flags]].concat()
+    [&CLIENT_ADDRESS[..], &MAPPED, &[flags], &SERVER_ADDRESS].concat()
 }
 
 fn file(entries: &[(u8, &[u8])]) -> Vec<u8> {
@@ -68,10 +68,38 @@ fn the_printed_report() {
 
 #[test]
 fn a_setup_alone() {
-    for flags in [0, 1, 2, 3, 6, 7] {
+    for flags in [0, 1, 2, 3, 6, 7, 8, 9, 10, 11, 14, 15] {
         let file = file(&[(SETUP, &setup(flags))]);
         assert_eq!(report(&file), "FTP64 REPORT 1\n0 0 0 - -\n");
     }
+}
+
+/// The same 227s in the strict form and without it; the setup's last four octets decide.
+#[test]
+fn a_strict_session() {
+    let answers = |flags| {
+        let entries = [
+            (SETUP, &setup(flags)[..]),
+            (SERVER_OCTETS, b"220\n"),
+            (CLIENT_OCTETS, b"EPSV\nEPSV\n"),
+            (SERVER_OCTETS, b"227 192,0,2,31,237,19\n"),
+            (SERVER_OCTETS, b"227 198,51,100,7,237,19\n"),
+        ];
+        let report = report(&file(&entries));
+        let lines = report.lines().skip(4).map(str::to_string);
+        lines.collect::<Vec<String>>()
+    };
+    let extended = r"229\20Entering\20Extended\20Passive\20Mode\20(|||60691|)\0d\0a";
+    let refused = r"425\20Can't\20open\20data\20connection.\0d\0a";
+    let own = format!("4 24 0 - {extended}");
+    assert_eq!(
+        answers(9),
+        [&format!("3 22 0 - {refused}"), &own].map(String::clone)
+    );
+    assert_eq!(
+        answers(1),
+        [&format!("3 22 0 - {extended}"), &own].map(String::clone)
+    );
 }
 
 #[test]
@@ -132,7 +160,7 @@ fn both_sides_in_one_entry() {
 /// The entry's own line comes first, and the header counts the table's entries.
 #[test]
 fn stopped_by_a_refused_setup() {
-    for flags in [4, 5, 8, 0x87, 0xff] {
+    for flags in [4, 5, 12, 13, 16, 24, 0x87, 0xff] {
         let file = file(&[(SETUP, &setup(flags)), (SERVER_OCTETS, b"220 hi\r\n")]);
         assert_eq!(report(&file), "FTP64 REPORT 2\n0 0 5 - -\nSTOPPED\n");
     }
@@ -233,7 +261,7 @@ fn wrong_order() {
     check_refused(&file(&[(CLIENT_END, b"")]), 8);
     check_refused(&file(&[(SERVER_OCTETS, b""), (SETUP, &setup(1))]), 8);
     check_refused(&file(&[(SETUP, &setup(1)), (SETUP, &setup(1))]), 8);
-    // An entry of 21 octets that is no setup does not stand for one.
+    // An entry of 25 octets that is no setup does not stand for one.
     check_refused(&file(&[(CLIENT_OCTETS, &setup(1))]), 8);
 }
 
@@ -251,7 +279,8 @@ fn wrong_zero_octets() {
 #[test]
 fn wrong_lengths() {
     let setup = setup(1);
-    for length in [0, 1, 20, 22, 1024] {
+    // 21 octets were a setup before it named the server.
+    for length in [0, 1, 20, 21, 22, 24, 26, 1024] {
         check_refused(&file(&[(SETUP, &vec![0; length])]), 8);
     }
     for kind in [CLIENT_END, SERVER_END] {
@@ -274,12 +303,13 @@ fn the_order_of_refusals() {
     check_refused(&[0, 1, 9, 9, 9], 7);
     // A wrong entry and a wrong total: the entry first.
     check_refused(&[0, 1, 9, 9, 9, 9], 8);
-    check_refused(&[0, 1, SETUP, 0, 0, 22], 8);
+    check_refused(&[0, 1, SETUP, 0, 0, 21], 8);
+    check_refused(&[0, 1, SETUP, 0, 0, 26], 8);
     let mut file = printed_file();
     file[8] = 0xff;
     check_refused(&file, 8);
     // A good table without its bodies: the total.
-    check_refused(&[0, 1, SETUP, 0, 0, 21], 7);
+    check_refused(&[0, 1, SETUP, 0, 0, 25], 7);
     // Less than a count, and a count with nothing after it.
     check_refused(&[], 7);
     check_refused(&[0], 7);

@@ -1,4 +1,4 @@
-//! Document 01's rules, run, with requests 1 and 2 of document 02.
+//! Document 01's rules, run, with requests 1, 2 and 4 of document 02.
 
 mod addresses;
 mod answers;
@@ -15,5 +15,6 @@ mod ports;
 mod queue;
 mod random;
 mod server_lines;
+mod strict;
 mod talk;
 mod telnet;

@@ -42,7 +42,7 @@ fn every_port_through_227() {
 fn every_mapped_octet() {
     for octet in 0..=255 {
         let mapped = [octet, 255 - octet, 0, octet];
-        let (mut gateway, _) = Gateway::setup(CLIENT_ADDRESS, mapped, ALL_ON);
+        let (mut gateway, _) = Gateway::setup(CLIENT_ADDRESS, mapped, ALL_ON, SERVER_ADDRESS);
         let outcome = arrive(&mut gateway, CLIENT, "EPRT |2|2001:db8:2::31|256|\r\n");
         let made = format!("PORT {octet},{},0,{octet},1,0\r\n", 255 - octet);
         assert_eq!(text(&outcome.to_server), made);

@@ -6,6 +6,7 @@ pub const SERVER: u8 = 1;
 /// 2001:db8:2::31
 pub const CLIENT_ADDRESS: [u8; 16] = [0x20, 1, 0xd, 0xb8, 0, 2, 0, 0, 0, 0, 0, 0, 0, 0, 0, 0x31];
 pub const MAPPED: [u8; 4] = [192, 0, 2, 31];
+pub const SERVER_ADDRESS: [u8; 4] = [198, 51, 100, 7];
 
 /// Setup flags.
 pub const ALL_OFF: u8 = 0;
@@ -13,6 +14,7 @@ pub const EPSV_ON: u8 = 1;
 pub const EPRT_SUPPORTED: u8 = 2;
 pub const EPRT_ON: u8 = 6;
 pub const ALL_ON: u8 = 7;
+pub const STRICT: u8 = 8;
 
 /// Room that no test fills, but for those that say a room of their own.
 pub const PLENTY: usize = 8192;
@@ -21,6 +23,7 @@ pub const NOT_SUPPORTED: &str = "522 Network protocol not supported\r\n";
 pub const NOT_IMPLEMENTED: &str = "504 Command not implemented for that parameter\r\n";
 pub const PASSIVE: &str = "227 Entering Passive Mode (192,0,2,31,237,19)\r\n";
 pub const EXTENDED_PASSIVE: &str = "229 Entering Extended Passive Mode (|||60691|)\r\n";
+pub const NO_CONNECTION: &str = "425 Can't open data connection.\r\n";
 
 /// What a call answers, how many octets it took, and those it wrote for each side.
 #[derive(Clone, Debug, Default, PartialEq, Eq)]
@@ -46,8 +49,8 @@ impl Outcome {
 pub struct Gateway(reference::Gateway);
 
 impl Gateway {
-    pub fn setup(client: [u8; 16], mapped: [u8; 4], flags: u8) -> (Gateway, u8) {
-        let (gateway, answer) = reference::Gateway::setup(client, mapped, flags);
+    pub fn setup(client: [u8; 16], mapped: [u8; 4], flags: u8, server: [u8; 4]) -> (Gateway, u8) {
+        let (gateway, answer) = reference::Gateway::setup(client, mapped, flags, server);
         (Gateway(gateway), answer)
     }
 
@@ -164,7 +167,12 @@ pub fn arrive(gateway: &mut Gateway, direction: u8, said: &str) -> Outcome {
 
 #[track_caller]
 pub fn fresh(flags: u8) -> Gateway {
-    let (gateway, answer) = Gateway::setup(CLIENT_ADDRESS, MAPPED, flags);
+    fresh_with(flags, SERVER_ADDRESS)
+}
+
+#[track_caller]
+pub fn fresh_with(flags: u8, server: [u8; 4]) -> Gateway {
+    let (gateway, answer) = Gateway::setup(CLIENT_ADDRESS, MAPPED, flags, server);
     assert_eq!(answer, 0);
     gateway
 }

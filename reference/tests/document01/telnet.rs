@@ -373,7 +373,7 @@ fn only_subnegotiations_are_counted() {
         assert_eq!([gateway.removed(CLIENT), gateway.removed(SERVER)], [0, 0]);
     }
     assert_eq!(greeted(ALL_ON).removed(2), 0);
-    let (dead, _) = Gateway::setup(CLIENT_ADDRESS, MAPPED, 8);
+    let (dead, _) = Gateway::setup(CLIENT_ADDRESS, MAPPED, 16, SERVER_ADDRESS);
     assert_eq!(dead.removed(CLIENT), 0);
 }
 

@@ -10,7 +10,8 @@
 //! # fn main() -> Result<(), fashlemor::Refused> {
 //! let client = "2001:db8:2::31".parse().unwrap();
 //! let mapped = "192.0.2.31".parse().unwrap();
-//! let mut session = Session::setup(&Setup { client, mapped, flags: fashlemor::EPSV })?;
+//! let server = "198.51.100.7".parse().unwrap();
+//! let mut session = Session::setup(&Setup { client, mapped, flags: fashlemor::EPSV, server })?;
 //!
 //! let (mut to_server, mut to_client) = ([0; ROOM], [0; ROOM]);
 //! let call = session.arrive(Direction::Server, b"220 hi\r\n", &mut to_server, &mut to_client)?;
@@ -43,10 +44,10 @@ use std::fmt;
 use std::net::{Ipv4Addr, Ipv6Addr};
 
 /// The octets of a record.
-pub const RECORD: usize = 1106;
+pub const RECORD: usize = 1111;
 
-/// The octets of a setup: the two addresses and the flags.
-pub const SETUP: usize = 21;
+/// The octets of a setup: the client's two addresses, the flags and the server's address.
+pub const SETUP: usize = 25;
 
 /// With this much room in each buffer an arrival that is not refused, and not stopped by
 /// [`Stop::QueueFull`], takes at least one of its octets.
@@ -61,6 +62,9 @@ pub const EPSV: u8 = 1;
 pub const EPRT_SUPPORTED: u8 = 2;
 /// EPRT translation is on; only where it is supported.
 pub const EPRT: u8 = 4;
+/// A 227 for a translated EPSV that names another address than the server's becomes a 425; without
+/// it the server's address is not looked at.
+pub const STRICT: u8 = 8;
 
 /// Whose octets arrive or end.
 #[derive(Clone, Copy, Debug, PartialEq, Eq, Hash)]
@@ -78,12 +82,14 @@ impl Direction {
     }
 }
 
-/// What a setup gives: the client's address, its mapped address, and a sum of the flags.
+/// What a setup gives: the client's address, its mapped address, a sum of the flags, and the
+/// server's address.
 #[derive(Clone, Copy, Debug, PartialEq, Eq, Hash)]
 pub struct Setup {
     pub client: Ipv6Addr,
     pub mapped: Ipv4Addr,
     pub flags: u8,
+    pub server: Ipv4Addr,
 }
 
 impl Setup {
@@ -93,6 +99,7 @@ impl Setup {
         octets[..16].copy_from_slice(&self.client.octets());
         octets[16..20].copy_from_slice(&self.mapped.octets());
         octets[20] = self.flags;
+        octets[21..].copy_from_slice(&self.server.octets());
         octets
     }
 }

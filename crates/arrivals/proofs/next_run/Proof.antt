@@ -21,7 +21,7 @@ use Rattle.arrivals.proofs.next_run.Tie as tie
 
 -- any setup, where what it fixed does not matter
 abbrev any : Fixed
-any = record { client = []; mapped = []; supported = false }
+any = record { client = []; mapped = []; server = []; supported = false; strict = false }
 
 returns : tie.Need-returns
 returns c = c .before .before .before .before .before .before .before .plain-lines .ensures

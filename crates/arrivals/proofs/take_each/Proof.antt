@@ -22,13 +22,13 @@ use Rattle.arrivals.proofs.take_each.Statement.{statement}
 use Rattle.arrivals.proofs.take_each.Tie as tie
 
 abbrev Inv-loop : tie.InvT-loop
-Inv-loop supported from-client octets lent₀ to-server₀ to-client₀ control₀ written₀ i₀ lent to-server to-client control written i =
-    Going (fixedLent supported lent₀) (sideIf from-client) octets (stateLent control₀ lent₀) to-server₀ to-client₀
+Inv-loop supported strict from-client octets lent₀ to-server₀ to-client₀ control₀ written₀ i₀ lent to-server to-client control written i =
+    Going (fixedLent supported strict lent₀) (sideIf from-client) octets (stateLent control₀ lent₀) to-server₀ to-client₀
     (coreLent control lent to-server to-client written) i
     × (i ≤ length octets) × (length lent ≡ lentSize) × (addressesLent lent ≡ addressesLent lent₀)
 
 abbrev μ-loop : tie.MeasureT-loop
-μ-loop supported from-client octets lent₀ to-server₀ to-client₀ control₀ written₀ i₀ lent to-server to-client control written i =
+μ-loop supported strict from-client octets lent₀ to-server₀ to-client₀ control₀ written₀ i₀ lent to-server to-client control written i =
     length octets - i
 
 -- the counts that a record's arrays can hold
@@ -41,7 +41,7 @@ module _ (c : tie.After-written Inv-loop μ-loop) where
   start = c .before .before .before .before .before .before .before .before .before .before .before .before .before .before .before .before .before .before
 
   abbrev fixed : Fixed
-  fixed = fixedLent (start .args .supported) (start .args .lent .now)
+  fixed = fixedLent (start .args .supported) (start .args .strict) (start .args .lent .now)
 
   abbrev side : Side
   side = sideIf (start .args .from-client)
@@ -76,7 +76,7 @@ module _ (c : tie.After-written2 Inv-loop μ-loop) where
   run = c .before .before .before .before .before .before .before .before .before .before .before .before .before .before
 
   abbrev behind : Control → Core
-  behind k = let o = c .before .before .before .before .before .before .before .before .next-octet in coreLent k (o .last .1 .1 .1 .1 .0) (o .last .1 .1 .1 .1 .1 .0) (o .last .1 .1 .1 .1 .1 .1 .0) (o .result .written)
+  behind k = let o = c .before .before .before .before .before .before .before .before .next-octet in coreLent k (o .last .1 .1 .1 .1 .1 .0) (o .last .1 .1 .1 .1 .1 .1 .0) (o .last .1 .1 .1 .1 .1 .1 .1 .0) (o .result .written)
 
   abbrev before-octet : Core
   before-octet = between run (run .before .rebuilt .result)
@@ -99,14 +99,14 @@ module _ (c : tie.After-written2 Inv-loop μ-loop) where
       let x = getD (a .octets .now) (reached run) 0 in
       subst (λ (k : Control). Answered (o .result .answer) (behind k) (tookNext within (fixed run) (side run) x before-octet) before-octet) (sym (c .before .rebuilt2 .ensures))
       (subst (λ (f : Fixed). Answered (o .result .answer) (behind (o .result .control)) (tookNext within f (side run) x before-octet) before-octet)
-      (fixed-same (run .before .before .before .before .before .before .before .before .next-run .last .1 .1 .1 .1 .0) (size run) (a .lent .now) (start run .pre .1) (addresses run) (a .supported)) (o .ensures .0))
+      (fixed-same (run .before .before .before .before .before .before .before .before .next-run .last .1 .1 .1 .1 .0) (size run) (a .lent .now) (start run .pre .1) (addresses run) (a .supported) (a .strict)) (o .ensures .0))
 
   counted : Counted (c .before .rebuilt2 .result)
   counted =
       let o = c .before .before .before .before .before .before .before .before .next-octet in
       subst Counted (sym (c .before .rebuilt2 .ensures)) (o .ensures .1 .1 (held-counts (went run .bounded)))
 
-  kept : addressesLent (c .before .before .before .before .before .before .before .before .next-octet .last .1 .1 .1 .1 .0) ≡ addressesLent (start run .args .lent .now)
+  kept : addressesLent (c .before .before .before .before .before .before .before .before .next-octet .last .1 .1 .1 .1 .1 .0) ≡ addressesLent (start run .args .lent .now)
   kept = c .before .before .before .before .before .before .before .before .next-octet .ensures .1 .0 ∙ addresses run
 
   stopped : (answerNumber (c .before .before .before .before .before .before .before .before .next-octet .result .answer) ≡ 0 → ⊥)
@@ -130,14 +130,14 @@ module _ (c : tie.After-written2 Inv-loop μ-loop) where
   Same =
       let o = c .before .before .before .before .before .before .before .before .next-octet in
       let a = start run .args in
-      (length (o .last .1 .1 .1 .1 .0) ≡ length (a .lent .now))
-      × ((length (o .last .1 .1 .1 .1 .1 .0) ≡ length (a .to-server .now)) × (length (o .last .1 .1 .1 .1 .1 .1 .0) ≡ length (a .to-client .now)))
+      (length (o .last .1 .1 .1 .1 .1 .0) ≡ length (a .lent .now))
+      × ((length (o .last .1 .1 .1 .1 .1 .1 .0) ≡ length (a .to-server .now)) × (length (o .last .1 .1 .1 .1 .1 .1 .1 .0) ≡ length (a .to-client .now)))
 
   same : Same
   same =
       let o = c .before .before .before .before .before .before .before .before .next-octet .kept in
       let v = went run in
-      (o .1 .1 .1 .1 .0 ∙ (size run ∙ sym (start run .pre .1)), (o .1 .1 .1 .1 .1 .0 ∙ v .server-size, o .1 .1 .1 .1 .1 .1 .0 ∙ v .client-size))
+      (o .1 .1 .1 .1 .1 .0 ∙ (size run ∙ sym (start run .pre .1)), (o .1 .1 .1 .1 .1 .1 .0 ∙ v .server-size, o .1 .1 .1 .1 .1 .1 .1 .0 ∙ v .client-size))
 
 -- ---- the needs
 
@@ -146,7 +146,7 @@ loop-holds c =
     let start = c .before .before .before .before in
     let a = start .args in
     let p = start .pre in (
-      going-start (fixedLent (a .supported) (a .lent .now)) (sideIf (a .from-client)) (a .octets .now) (stateLent (a .start) (a .lent .now))
+      going-start (fixedLent (a .supported) (a .strict) (a .lent .now)) (sideIf (a .from-client)) (a .octets .now) (stateLent (a .start) (a .lent .now))
           (a .to-server .now) (a .to-client .now)
           (record { owed = p .0 .owed; command = p .0 .command; reply = p .0 .reply; server = omega arith; client = omega arith }),
       omega arith,
@@ -165,7 +165,7 @@ returns c =
 add-i : tie.Need-add-i Inv-loop μ-loop
 add-i c =
     let more = c .before .before .before .before .before .before .before .before .before .before .before .before .before .before .before .if1 .taken in
-    let known = start (c .before .before .before .before .before .before .before .before .before .before .before .before .before .before .before .before) .good .1 .1 .1 .0 in
+    let known = start (c .before .before .before .before .before .before .before .before .before .before .before .before .before .before .before .before) .good .1 .1 .1 .1 .0 in
     omega arith
 
 loop-less : tie.Need-loop-less Inv-loop μ-loop
@@ -195,7 +195,7 @@ returns-2 : tie.Need-returns-2 Inv-loop μ-loop
 returns-2 c =
     let a = c .before .before .before .before .before .before .args in
     let l = c .before .loop in (
-      stopped-done (fixedLent (a .supported) (a .lent .now)) (sideIf (a .from-client)) (a .octets .now) (stateLent (a .start) (a .lent .now))
+      stopped-done (fixedLent (a .supported) (a .strict) (a .lent .now)) (sideIf (a .from-client)) (a .octets .now) (stateLent (a .start) (a .lent .now))
           (a .to-server .now) (a .to-client .now) _ (l .i) (l .inv .0) (c .loop-test .left),
       (l .inv .3, held-counts (l .inv .0 .bounded)),
     )

@@ -39,6 +39,10 @@ returns-8 : tie.Need-returns-8
 unfolding givesText
 returns-8 c = counted _ _ _ (c .before .before .gives2 .given .1) (all-counted (c .extended-passive-length .ensures) (omega (arith, c .extended-passive-length .ok)))
 
+returns-9 : tie.Need-returns-9
+unfolding givesText
+returns-9 c = counted _ _ _ (c .before .enum-told7 .given .1) (all-counted (c .cannot-open-length .ensures) (omega (arith, c .cannot-open-length .ok)))
+
 pub gives-length-spec : {M : Type 1} → statement M
 gives-length-spec =
     tie.close
@@ -56,6 +60,8 @@ gives-length-spec =
     (λ c κs. search needs)
     (λ c. search needs)
     (λ c κs. search needs)
+    (λ c. search needs)
+    (λ c κs. search needs)
     returns
     returns-2
     returns-3
@@ -63,4 +69,5 @@ gives-length-spec =
     returns-5
     returns-6
     returns-7
-    returns-8)
+    returns-8
+    returns-9)

@@ -38,12 +38,18 @@ returns-8 : tie.Need-returns-8
 unfolding givesText
 returns-8 c = written _ _ (text-of _ _ _ (c .before .before .before .before .before .gives2 .given .1)) (c .before .before .put-extended-passive .ensures)
 
+returns-9 : tie.Need-returns-9
+unfolding givesText
+returns-9 c = written _ _ (text-of _ _ _ (c .before .before .before .before .enum-told7 .given .1)) (c .before .before .put-cannot-open .ensures)
+
 pub put-gives-spec : {M : Type 1} → statement M
 put-gives-spec =
     tie.close
     (tie.spec
     (λ c. search needs)
     (λ c. search needs)
+    (λ c. search needs)
+    (λ c κs. search needs)
     (λ c. search needs)
     (λ c κs. search needs)
     (λ c. search needs)
@@ -69,4 +75,6 @@ put-gives-spec =
     (λ c. search needs)
     returns-7
     (λ c. search needs)
-    returns-8)
+    returns-8
+    (λ c. search needs)
+    returns-9)

@@ -5,21 +5,25 @@ use borrow.Author.Needs.{needs}
 use Rattle.rules.specs.Lines.{mostHeld}
 use Rattle.rules.specs.Answers.{mostOwed}
 use Rattle.rules.specs.Setup.{ipv6Width, ipv4Width}
-use Rattle.records.specs.Layout.{clientAt, mappedAt, kindsAt, commandAt, replyAt}
+use Rattle.records.specs.Layout.{clientAt, mappedAt, serverAt, kindsAt, commandAt, replyAt}
 use Rattle.image.proofs.fields.Statement.{statement}
 use Rattle.image.proofs.fields.Tie as tie
 
+counts-at-requires : tie.Need-counts-at-requires
+counts-at-requires c κs = let size = c .before .before .before .before .before .before .before .before .before .before .before .before .before .before .before .before .before .pre in search needs
+
 counts-at-requires-2 : tie.Need-counts-at-requires-2
-counts-at-requires-2 c κs = let size = c .before .before .before .before .before .before .before .before .before .before .before .before .before .before .before .pre in search needs
+counts-at-requires-2 c κs = let size = c .before .before .before .before .before .before .before .before .before .before .before .before .before .before .before .before .before .before .pre in search needs
 
 returns : tie.Need-returns
 returns c =
-    let start = c .before .before .before .before .before .before .before .before .before .before .before .before .before .before .before .before in
+    let start = c .before .before .before .before .before .before .before .before .before .before .before .before .before .before .before .before .before .before .before in
     let image = start .args .image .now in
     let size = start .pre in
     fields-read image
-    (copied image clientAt ipv6Width (omega arith) (c .before .before .before .before .before .before .before .before .before .before .before .ipv6-from .ensures))
-    (copied image mappedAt ipv4Width (omega arith) (c .before .before .before .before .before .before .before .before .before .ipv4-from .ensures))
+    (copied image clientAt ipv6Width (omega arith) (c .before .before .before .before .before .before .before .before .before .before .before .before .before .ipv6-from .ensures))
+    (copied image mappedAt ipv4Width (omega arith) (c .before .before .before .before .before .before .before .before .before .before .before .ipv4-from .ensures))
+    (copied image serverAt ipv4Width (omega arith) (c .before .before .before .before .before .before .before .before .before .ipv4-from2 .ensures))
     (copied image kindsAt mostOwed (omega arith) (c .before .before .before .before .before .before .before .kinds-from .ensures))
     (copied image commandAt mostHeld (omega arith) (c .before .before .before .before .before .held-line .ensures))
     (copied image replyAt mostHeld (omega arith) (c .before .before .before .held-line2 .ensures))
@@ -36,9 +40,6 @@ fields-spec =
     (λ c. search needs)
     (λ c. search needs)
     (λ c. search needs)
-    (λ c κs. search needs)
-    (λ c. search needs)
-    (λ c. search needs)
     (λ c. search needs)
     (λ c κs. search needs)
     (λ c. search needs)
@@ -53,7 +54,15 @@ fields-spec =
     (λ c. search needs)
     (λ c. search needs)
     (λ c κs. search needs)
+    (λ c. search needs)
+    (λ c. search needs)
+    (λ c. search needs)
+    (λ c κs. search needs)
+    (λ c. search needs)
+    (λ c. search needs)
+    (λ c. search needs)
     (λ c κs. search needs)
     (λ c κs. search needs)
+    counts-at-requires
     counts-at-requires-2
     returns)

@@ -23,7 +23,7 @@ returns c =
     let start = c .before .before .before .before .before .before .before .before .before .before .before .before .before .before in
     let a = start .args in
     let size = start .pre .0 in
-    let long = front-length true true (a .control) (a .up) (a .down) in
+    let long = front-length true true true (a .control) (a .up) (a .down) in
     let marked = c .before .before .before .before .before .before .put-control in
     let numbers = numbers-put (marked .last .0) (a .control) (a .up) (a .down) (c .before .before .before .before .before .before .before .before .before .before .uncapped .ensures) (c .before .before .before .before .before .before .before .before .before .uncapped2 .ensures) (c .before .before .before .before .before .before .before .before .uncapped3 .ensures)
     (c .before .before .put-numbers .ensures) in

@@ -17,14 +17,14 @@ code c = sym (c .before .has-227 .ensures) ∙ not-false _ (c .if1 .left)
 returns : tie.Need-returns
 returns c = without-227 _ (sym (c .before .has-227 .ensures) ∙ not-true _ (c .if1 .taken))
 
-port-at-requires : tie.Need-port-at-requires
-port-at-requires c κs =
+named-at-requires : tie.Need-named-at-requires
+named-at-requires c κs =
     run-inside notDigit (c .before .before .before .before .args .content .now) 4 _ (passive-long _ (code (c .before))) (c .first-digit .ensures)
 
 returns-2 : tie.Need-returns-2
 returns-2 c =
-    c .port-at .ensures ∙ with-227 _ _ (code (c .before .before)) (c .before .first-digit .ensures)
+    c .named-at .ensures ∙ with-227 _ _ (code (c .before .before)) (c .before .first-digit .ensures)
 
 pub passive-reply-spec : {M : Type 1} → statement M
 passive-reply-spec =
-    tie.close (tie.spec (λ c κs. search needs) returns (λ c κs. search needs) port-at-requires returns-2)
+    tie.close (tie.spec (λ c κs. search needs) returns (λ c κs. search needs) named-at-requires returns-2)

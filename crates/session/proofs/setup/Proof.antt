@@ -16,9 +16,9 @@ returns-2 c =
 
 returns-3 : tie.Need-returns-3
 returns-3 c =
-    let a = c .before .before .before .before .before .args in
-    fresh (a .setup) refl (c .before .before .before .before .if1 .left)
-    (⊎-elim (λ w. rw (w .0 .taken, w .1 .left)) (λ w. rw (w .left)) (c .before .before .before .if2 .came))
+    let a = c .before .before .before .before .before .before .args in
+    fresh (a .setup) refl (c .before .before .before .before .before .if1 .left)
+    (⊎-elim (λ w. rw (w .0 .taken, w .1 .left)) (λ w. rw (w .left)) (c .before .before .before .before .if2 .came))
     (c .start .ensures)
 
 pub setup-spec : {M : Type 1} → statement M

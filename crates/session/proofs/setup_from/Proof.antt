@@ -20,9 +20,9 @@ slice-aggregate-ipv6-from c =
 
 returns-2 : tie.Need-returns-2
 returns-2 c =
-    let a = c .before .before .before .before .before .before .before .before .args in
-    let size = c .before .before .before .before .before .before .if1 .left in
-    set-up (a .octets .now) size (c .before .before .before .before .ipv6-from .ensures) (c .before .before .ipv4-from .ensures) (c .setup .ensures)
+    let a = c .before .before .before .before .before .before .before .before .before .before .args in
+    let size = c .before .before .before .before .before .before .before .before .if1 .left in
+    set-up (a .octets .now) size (c .before .before .before .before .before .before .ipv6-from .ensures) (c .before .before .before .before .ipv4-from .ensures) (c .before .before .ipv4-from2 .ensures) (c .setup .ensures)
 
 pub setup-from-spec : {M : Type 1} → statement M
 setup-from-spec =
@@ -32,6 +32,12 @@ setup-from-spec =
     returns
     slice-aggregate-ipv6-from
     (λ c κs. search needs)
+    (λ c. search needs)
+    (λ c. search needs)
+    (λ c. search needs)
+    (λ c. search needs)
+    (λ c κs. search needs)
+    (λ c. search needs)
     (λ c. search needs)
     (λ c. search needs)
     (λ c. search needs)

@@ -6,7 +6,7 @@ use lib.Seq.{length-take-le}
 use Rattle.output.proofs.Front.{filled}
 use borrow.Author.Needs.{needs}
 use Rattle.rules.specs.Setup.{ipv6Width, ipv4Width}
-use Rattle.records.specs.Layout.{lentMapped}
+use Rattle.records.specs.Layout.{lentMapped, lentServerAddress}
 use Rattle.steps.proofs.fixed_in.Statement.{statement}
 use Rattle.steps.proofs.fixed_in.Tie as tie
 
@@ -17,11 +17,12 @@ slice-aggregate-ipv6-from c =
 
 returns : tie.Need-returns
 returns c =
-    let start = c .before .before .before .before .before in
+    let start = c .before .before .before .before .before .before .before in
     let lent = start .args .lent .now in
     let all = start .pre in
-    let client = c .before .before .ipv6-from .ensures ∙ filled ipv6Width (take ipv6Width lent) (length-take-le ipv6Width lent (omega arith)) in
-    let mapped = c .ipv4-from .ensures ∙ filled ipv4Width (take ipv4Width (drop lentMapped lent)) (length-take-le ipv4Width (drop lentMapped lent) (omega (arith, length-drop lentMapped lent))) in
+    let client = c .before .before .before .before .ipv6-from .ensures ∙ filled ipv6Width (take ipv6Width lent) (length-take-le ipv6Width lent (omega arith)) in
+    let mapped = c .before .before .ipv4-from .ensures ∙ filled ipv4Width (take ipv4Width (drop lentMapped lent)) (length-take-le ipv4Width (drop lentMapped lent) (omega (arith, length-drop lentMapped lent))) in
+    let server = c .ipv4-from2 .ensures ∙ filled ipv4Width (take ipv4Width (drop lentServerAddress lent)) (length-take-le ipv4Width (drop lentServerAddress lent) (omega (arith, length-drop lentServerAddress lent))) in
     cc
 
 pub fixed-in-spec : {M : Type 1} → statement M
@@ -29,6 +30,10 @@ fixed-in-spec =
     tie.close
     (tie.spec
     slice-aggregate-ipv6-from
+    (λ c κs. search needs)
+    (λ c. search needs)
+    (λ c. search needs)
+    (λ c. search needs)
     (λ c κs. search needs)
     (λ c. search needs)
     (λ c. search needs)

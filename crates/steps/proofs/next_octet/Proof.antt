@@ -21,7 +21,7 @@ Met start r lent toServer toClient =
     let a = start .args in
     let k = coreLent (a .control) (a .lent .now) (a .to-server .now) (a .to-client .now) (a .written) in
     let can = isWithin (a .control) (length (a .lent .now)) (length (a .to-server .now)) (length (a .to-client .now)) (a .written) in
-    let t = tookNext can (fixedLent (a .supported) (a .lent .now)) (sideIf (a .from-client)) (a .x) k in
+    let t = tookNext can (fixedLent (a .supported) (a .strict) (a .lent .now)) (sideIf (a .from-client)) (a .x) k in
     Answered (r .answer) (coreLent (r .control) lent toServer toClient (r .written)) t k
     × ((addressesLent lent ≡ addressesLent (a .lent .now)) × (Counted (a .control) → Counted (r .control)))
 
@@ -34,7 +34,7 @@ returns c =
     let a = start .args in
     let no = sym (c .before .before .within .ensures) ∙ not-true _ (c .before .if1 .taken) in
     subst (λ (r : Next). Met start r (a .lent .now) (a .to-server .now) (a .to-client .now)) (sym (c .answered .ensures))
-    (next-refused (fixedLent (a .supported) (a .lent .now)) (sideIf (a .from-client)) (a .x) _ no, (refl, λ h. h))
+    (next-refused (fixedLent (a .supported) (a .strict) (a .lent .now)) (sideIf (a .from-client)) (a .x) _ no, (refl, λ h. h))
 
 returns-2 : tie.Need-returns-2
 returns-2 c =
@@ -43,7 +43,7 @@ returns-2 c =
     let can = sym (c .before .before .before .before .within .ensures) ∙ not-false _ (c .before .before .before .if1 .left) in
     let full = sym (c .before .before .queue-full .ensures) ∙ c .before .if2 .taken in
     subst (λ (r : Next). Met start r (a .lent .now) (a .to-server .now) (a .to-client .now)) (sym (c .answered2 .ensures))
-    (next-full (fixedLent (a .supported) (a .lent .now)) (sideIf (a .from-client)) (a .x) _ can full, (refl, λ h. h))
+    (next-full (fixedLent (a .supported) (a .strict) (a .lent .now)) (sideIf (a .from-client)) (a .x) _ can full, (refl, λ h. h))
 
 lent-octet-requires : tie.Need-lent-octet-requires
 lent-octet-requires c κs =
@@ -60,8 +60,8 @@ returns-3 c =
     let can = sym (c .before .before .before .before .before .before .before .before .before .before .before .before .before .before .before .before .before .before .within .ensures) ∙ not-false _ (c .before .before .before .before .before .before .before .before .before .before .before .before .before .before .before .before .before .if1 .left) in
     let room = sym (c .before .before .before .before .before .before .before .before .before .before .before .before .before .before .before .before .queue-full .ensures) ∙ c .before .before .before .before .before .before .before .before .before .before .before .before .before .before .before .if2 .left in
     let stepped = o .ensures .0 in
-    subst (λ (r : Next). Met start r (o .last .1 .1 .1 .1 .0) (o .last .1 .1 .1 .1 .1 .0) (o .last .1 .1 .1 .1 .1 .1 .0)) (sym (c .answered3 .ensures)) (
-      next-unfit (fixedLent (a .supported) (a .lent .now)) (sideIf (a .from-client)) (a .x) _ can room (sym (not-true (o .result .fits) (c .before .if3 .taken)) ∙ stepped .fits) (stepped .core),
+    subst (λ (r : Next). Met start r (o .last .1 .1 .1 .1 .1 .0) (o .last .1 .1 .1 .1 .1 .1 .0) (o .last .1 .1 .1 .1 .1 .1 .1 .0)) (sym (c .answered3 .ensures)) (
+      next-unfit (fixedLent (a .supported) (a .strict) (a .lent .now)) (sideIf (a .from-client)) (a .x) _ can room (sym (not-true (o .result .fits) (c .before .if3 .taken)) ∙ stepped .fits) (stepped .core),
       (o .ensures .1, λ _. counts (stepped .bounded)),
     )
 
@@ -73,8 +73,8 @@ returns-4 c =
     let can = sym (c .before .before .before .before .before .before .before .before .before .before .before .before .before .before .before .before .before .before .within .ensures) ∙ not-false _ (c .before .before .before .before .before .before .before .before .before .before .before .before .before .before .before .before .before .if1 .left) in
     let room = sym (c .before .before .before .before .before .before .before .before .before .before .before .before .before .before .before .before .queue-full .ensures) ∙ c .before .before .before .before .before .before .before .before .before .before .before .before .before .before .before .if2 .left in
     let stepped = o .ensures .0 in
-    subst (λ (r : Next). Met start r (o .last .1 .1 .1 .1 .0) (o .last .1 .1 .1 .1 .1 .0) (o .last .1 .1 .1 .1 .1 .1 .0)) (sym (c .answered4 .ensures)) (
-      next-fits (fixedLent (a .supported) (a .lent .now)) (sideIf (a .from-client)) (a .x) _ can room (sym (not-false (o .result .fits) (c .before .if3 .left)) ∙ stepped .fits) (stepped .core),
+    subst (λ (r : Next). Met start r (o .last .1 .1 .1 .1 .1 .0) (o .last .1 .1 .1 .1 .1 .1 .0) (o .last .1 .1 .1 .1 .1 .1 .1 .0)) (sym (c .answered4 .ensures)) (
+      next-fits (fixedLent (a .supported) (a .strict) (a .lent .now)) (sideIf (a .from-client)) (a .x) _ can room (sym (not-false (o .result .fits) (c .before .if3 .left)) ∙ stepped .fits) (stepped .core),
       (o .ensures .1, λ _. counts (stepped .bounded)),
     )
 
