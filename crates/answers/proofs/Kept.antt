@@ -36,7 +36,8 @@ use Rattle.steps.specs.Steps.{State, owedThen, leaving, isAuthNext, settledCont
 use Rattle.places.specs.Places.{isHolding, isPassing, directionFromNow}
 use Rattle.records.specs.Sound.{refusalOf, Counted}
 use Rattle.steps.specs.Settled.{Settled}
-use Rattle.session.specs.Calls.{stateOf, sessionAfter, Outcome, refused, unlessRefused, outcome, arrived, endStep, endOutcome, endCalled, freshSession}
+use Rattle.setups.specs.Setups.{freshSession}
+use Rattle.session.specs.Calls.{stateOf, sessionAfter, Outcome, refused, unlessRefused, outcome, arrived, endStep, endOutcome, endCalled}
 use Rattle.session.specs.Bounds.{Shaped, WritesAtMost}
 use Rattle.steps.proofs.Octets.{length-stored}
 use Rattle.steps.proofs.Turns.{place-owed}

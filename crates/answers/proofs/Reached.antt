@@ -40,7 +40,8 @@ use Rattle.steps.specs.Takes.{Took, takes}
 use Rattle.arrivals.specs.Runs.{holding}
 use Rattle.arrivals.proofs.Runs.{Open, one-taken}
 use Rattle.session.specs.Bounds.{Shaped}
-use Rattle.session.specs.Calls.{noOctets, noKinds, stateOf, sessionAfter, unlessRefused, outcome, arrived, calls-opened}
+use Rattle.setups.specs.Setups.{noOctets, noKinds}
+use Rattle.session.specs.Calls.{stateOf, sessionAfter, unlessRefused, outcome, arrived, calls-opened}
 use Rattle.answers.specs.Reached.{Recomputed, Writes, fresh, enough, arrive, times, doubles, longLine, lastLine, begun, sixteenAnswers, waiting, allAtOnce}
 
 -- what is computed here, but for the judged length, which a law leaves as it is

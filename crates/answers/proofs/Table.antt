@@ -14,9 +14,10 @@ use Rattle.rules.specs.declared.Answer.{Answer}
 use Rattle.rules.specs.declared.Setup.{Setup}
 use Rattle.records.specs.declared.Session.{Session}
 use Rattle.records.specs.Sound.{directionOf}
-use Rattle.session.specs.declared.Prepared.{Prepared}
+use Rattle.setups.specs.declared.Prepared.{Prepared}
 use Rattle.steps.specs.Takes.{takes}
-use Rattle.session.specs.Calls.{Outcome, refused, unlessRefused, outcome, arrived, endCalled, freshSession, deadSession, stateOf, prepared}
+use Rattle.setups.specs.Setups.{freshSession, deadSession, prepared}
+use Rattle.session.specs.Calls.{Outcome, refused, unlessRefused, outcome, arrived, endCalled, stateOf}
 use Rattle.answers.specs.Table.{
   Situation,
   arrivedAt,

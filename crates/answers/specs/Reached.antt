@@ -18,7 +18,8 @@ use Rattle.records.specs.Controls.{withServer}
 use Rattle.rules.specs.Setup.{ipv6Width, ipv4Width}
 use Rattle.records.specs.declared.Session.{Session}
 use Rattle.session.specs.declared.Called.{Called}
-use Rattle.session.specs.Calls.{freshSession, noOctets, noCounts, arrived}
+use Rattle.setups.specs.Setups.{freshSession, noOctets, noCounts}
+use Rattle.session.specs.Calls.{arrived}
 
 -- "Recompute the bounds 512 and 1,280": those of any record that number 4 lets through, and what a fresh session can come to
 pub record Recomputed : Type 0 where

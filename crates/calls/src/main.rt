@@ -7,13 +7,13 @@
 ghost use mathlib.Core.Path.{_≡_};
 ghost use Prim.Native.Nat.{_≤_};
 ghost use lib.ListN.{length};
+use counts::DirectionOffset;
 use libc::STDIN_FILENO;
 use libc::STDOUT_FILENO;
 use records::Session;
 use rules::SETUP;
 use rules::number_of;
 use session::Called;
-use session::DirectionOffset;
 
 fn main() {
     let mut buffer = io::large_buffer();
@@ -56,7 +56,7 @@ fn run_script(script: &[u8]) {
         write_number(0);
         return;
     }
-    let p = session::setup_from(first(script, SETUP));
+    let p = setups::setup_from(first(script, SETUP));
     let answer = p.answer;
     let start = p.session;
     let length = run_calls(start, script, false);
@@ -154,7 +154,7 @@ fn called_length(called: Called) -> u32 {
 }
 
 fn offset(session: Session, direction: u8) -> u32 {
-    match session::offset(session, direction) {
+    match counts::offset(session, direction) {
         DirectionOffset::Is(n) => n,
         DirectionOffset::UnknownDirection => 0,
     }

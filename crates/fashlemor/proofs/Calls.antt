@@ -13,11 +13,12 @@ use Rattle.rules.specs.declared.Answer.{Answer}
 use Rattle.records.specs.Layout.{imageSize}
 use Rattle.output.specs.Buffer.{putAt}
 use Rattle.session.specs.declared.Called.{Called}
-use Rattle.session.specs.declared.Prepared.{Prepared}
+use Rattle.setups.specs.declared.Prepared.{Prepared}
 use Rattle.records.specs.declared.Session.{Session}
-use Rattle.session.specs.declared.DirectionOffset.{DirectionOffset}
+use Rattle.counts.specs.declared.DirectionOffset.{DirectionOffset}
 use Rattle.records.specs.Sound.{refusalOf}
-use Rattle.session.specs.Calls.{Outcome, refused, unlessRefused, arrived, endCalled, offset}
+use Rattle.counts.specs.Counts.{offset}
+use Rattle.session.specs.Calls.{Outcome, refused, unlessRefused, arrived, endCalled}
 use Rattle.image.specs.Image.{imageOf, sessionOf}
 use Rattle.image.specs.declared.arrival.Told.{Told}
 use Rattle.image.specs.Lent.{arrivedOn, endedOn, imageAfter, serverAfter, clientAfter}

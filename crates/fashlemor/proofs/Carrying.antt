@@ -16,7 +16,7 @@ use Rattle.rules.specs.declared.Answer.{Answer}
 use Rattle.rules.specs.Setup.{ipv6Width, ipv4Width, setupSize, setupIn}
 use Rattle.rules.specs.declared.Setup.{Setup}
 use Rattle.rules.specs.declared.Fixed.{Fixed}
-use Rattle.session.proofs.Octets.{of-size}
+use Rattle.setups.proofs.Octets.{of-size}
 use Rattle.records.specs.Layout.{imageSize}
 use Rattle.output.specs.Buffer.{putAt}
 use Rattle.output.proofs.Placing.{length-put}
@@ -24,7 +24,8 @@ use Rattle.records.specs.declared.Session.{Session}
 use Rattle.session.specs.Bounds.{Shaped}
 use Rattle.steps.specs.Steps.{Step}
 use Rattle.steps.specs.Takes.{Took}
-use Rattle.session.specs.Calls.{Outcome, refused, unlessRefused, outcome, sessionAfter, arrived, endOutcome, endCalled, prepared, preparedFrom, deadSession, freshSession}
+use Rattle.setups.specs.Setups.{prepared, preparedFrom, deadSession, freshSession}
+use Rattle.session.specs.Calls.{Outcome, refused, unlessRefused, outcome, sessionAfter, arrived, endOutcome, endCalled}
 use Rattle.output.proofs.Front.{front-put}
 use Rattle.answers.specs.Table.{Situation, Result, ofArrival, ofEnd, Sound, BadFlags}
 use Rattle.answers.proofs.Refusals.{sound-words}

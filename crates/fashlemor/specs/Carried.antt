@@ -13,7 +13,8 @@ use Rattle.records.specs.Layout.{imageSize}
 use Rattle.output.specs.Buffer.{putAt}
 use Rattle.records.specs.declared.Session.{Session}
 use Rattle.session.specs.Bounds.{Shaped}
-use Rattle.session.specs.Calls.{Outcome, freshSession, preparedFrom}
+use Rattle.setups.specs.Setups.{freshSession, preparedFrom}
+use Rattle.session.specs.Calls.{Outcome}
 use Rattle.answers.specs.Table.{Situation, Result, Sound}
 use Rattle.image.specs.Image.{imageOf, sessionOf, Wrapped}
 use Rattle.image.specs.Lent.{endedOn, imageAfter}

@@ -9,8 +9,8 @@ use Rattle.rules.specs.declared.Answer.{Answer}
 use Rattle.records.specs.Layout.{imageSize}
 use Rattle.steps.specs.declared.Written.{Written}
 use Rattle.session.specs.declared.Called.{Called}
-use Rattle.session.specs.declared.Prepared.{Prepared}
-use Rattle.session.specs.declared.DirectionOffset.{DirectionOffset}
+use Rattle.setups.specs.declared.Prepared.{Prepared}
+use Rattle.counts.specs.declared.DirectionOffset.{DirectionOffset}
 
 -- ---- setup
 

@@ -3,10 +3,13 @@
 ghost use mathlib.Core.Path.{_≡_};
 ghost use Rattle.rules.specs.Answers.{answerNumber};
 ghost use Rattle.output.specs.Buffer.{putAt};
-ghost use Rattle.session.specs.Calls.{preparedFrom, offset as offsetIn};
+ghost use Rattle.setups.specs.Setups.{preparedFrom};
+ghost use Rattle.counts.specs.Counts.{offset as offsetIn};
 ghost use Rattle.image.specs.Image.{imageOf, sessionOf};
 ghost use Rattle.image.specs.Lent.{arrivedOn, endedOn, imageAfter, serverAfter, clientAfter};
 ghost use Rattle.fashlemor.specs.Host.{setupNumber, countsFrom, countsOf, narrow, offsetNumber, offsetAfter};
+use counts::DirectionOffset;
+use counts::offset;
 use image::arrive_at;
 use image::end_at;
 use image::put_image;
@@ -14,9 +17,7 @@ use image::read_image;
 use records::layout;
 use rules::Answer;
 use rules::number_of;
-use session::DirectionOffset;
-use session::offset;
-use session::setup_from;
+use setups::setup_from;
 use steps::Written;
 
 // Writes the record of a fresh session, or the record of a setup that is refused.

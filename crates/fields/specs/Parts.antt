@@ -3,7 +3,7 @@ use mathlib.Core.List.{List}
 use Prim.Native.Nat.{ℕ, _-_}
 use lib.Dec.{leb}
 use Rattle.rules.specs.Octets.{choose}
-use Rattle.session.specs.Calls.{deadSession}
+use Rattle.setups.specs.Setups.{deadSession}
 use Rattle.fields.specs.declared.Room.{Room}
 use Rattle.fields.specs.Report.{Done}
 

@@ -7,7 +7,8 @@ use lib.ListN.{getD, take, drop}
 use Rattle.rules.specs.Octets.{oct, lf, space, choose, isEmpty, within, decimal}
 use Rattle.rules.specs.Answers.{answerNumber}
 use Rattle.records.specs.declared.Session.{Session}
-use Rattle.session.specs.Calls.{Outcome, preparedFrom, arrived, endCalled, deadSession}
+use Rattle.setups.specs.Setups.{preparedFrom, deadSession}
+use Rattle.session.specs.Calls.{Outcome, arrived, endCalled}
 use Rattle.files.specs.declared.Verdict.{Verdict}
 use Rattle.files.specs.Contents.{Entry, count, tableEnd, tableOf, verdict, verdictNumber}
 

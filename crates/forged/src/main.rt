@@ -22,7 +22,7 @@ use session::Called;
 const SIZE: usize = 600;
 
 fn main() {
-    let fresh = session::setup(Setup {
+    let fresh = setups::setup(Setup {
         client: [0u8; IPV6],
         mapped: [0u8; IPV4],
         flags: 7,

@@ -18,7 +18,8 @@ use Rattle.rules.specs.declared.Fixed.{Fixed}
 use Rattle.steps.specs.Steps.{State, Step, octetStep}
 use Rattle.places.specs.Places.{isEnded}
 use Rattle.records.specs.Sound.{directionOf, sound, refusalOf}
-use Rattle.session.specs.Calls.{stateOf, takenFor, sessionAfter, Outcome, refused, unlessRefused, outcome, arrived, endStep, endOutcome, endCalled as sessionEnded}
+use Rattle.counts.specs.Counts.{takenFor}
+use Rattle.session.specs.Calls.{stateOf, sessionAfter, Outcome, refused, unlessRefused, outcome, arrived, endStep, endOutcome, endCalled as sessionEnded}
 use Rattle.steps.specs.Takes.{Took, stopOf, takes}
 use Rattle.records.proofs.Refusals.{refusal-cases}
 use Rattle.steps.proofs.Stops.{unless-stopped}

@@ -7,7 +7,7 @@ use lib.ListN.{length}
 use Rattle.rules.specs.Answers.{Side, client, server, wrapped, offsetOf}
 use Rattle.rules.specs.History.{Item, octet, end, textOf, takenFrom}
 use Rattle.records.specs.declared.Counts.{Counts}
-use Rattle.session.specs.Calls.{counted, takenFor}
+use Rattle.counts.specs.Counts.{counted, takenFor}
 
 -- a direction's counts stand for t octets taken and w written
 pub record Counted (k : Counts) (t w : ℕ) : Type 0 where

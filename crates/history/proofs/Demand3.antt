@@ -51,7 +51,9 @@ use Rattle.rules.specs.Demand3.{
 use Rattle.places.specs.declared.Place.{Place}
 use Rattle.records.specs.declared.Session.{Session}
 use Rattle.rules.specs.declared.Fixed.{Fixed}
-use Rattle.session.specs.Calls.{Outcome, freshSession, offset}
+use Rattle.setups.specs.Setups.{freshSession}
+use Rattle.counts.specs.Counts.{offset}
+use Rattle.session.specs.Calls.{Outcome}
 use Rattle.places.specs.Places.{isHolding}
 use Rattle.records.specs.Sound.{sound, soundDirection}
 use Rattle.readings.proofs.Readings.{readings-agree}

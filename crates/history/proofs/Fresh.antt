@@ -26,7 +26,8 @@ use Rattle.upstream.specs.Upstream.{commandEffect}
 use Rattle.downstream.specs.Downstream.{kindEffect, passiveEffect}
 use Rattle.rules.specs.declared.Fixed.{Fixed}
 use Rattle.session.specs.declared.Called.{Called}
-use Rattle.session.specs.Calls.{Outcome, prepared, freshSession}
+use Rattle.setups.specs.Setups.{prepared, freshSession}
+use Rattle.session.specs.Calls.{Outcome}
 use Rattle.history.specs.Gateway.{Fresh, returned, Promise, outcomeOf}
 use Rattle.history.proofs.Queue.{queue-fresh}
 use Rattle.history.proofs.Places.{Agrees, begins}

@@ -13,7 +13,8 @@ use Rattle.rules.specs.Pieces.{rolesOf, spoken}
 use Rattle.rules.specs.Demand3.{Call, arrival, ending, Made, FromFresh, historyOf, goneToServer, goneToClient, spokenToServer}
 use Rattle.rules.specs.Exchanges.{Exchange, exchangeOf, Removal, removal, allOn, greeting, serverSays, printed}
 use Rattle.records.specs.declared.Session.{Session}
-use Rattle.session.specs.Calls.{Outcome, prepared, arrived, endCalled}
+use Rattle.setups.specs.Setups.{prepared}
+use Rattle.session.specs.Calls.{Outcome, arrived, endCalled}
 use Rattle.history.specs.Gateway.{octetPieces, callPieces, directionNumber, gateway}
 
 -- ---- of all calls, wherever the arrivals are cut and whatever the rooms

@@ -13,8 +13,10 @@ use Rattle.records.specs.declared.Session.{Session}
 use Rattle.records.specs.Controls.{layerIn}
 use Rattle.steps.specs.Steps.{State, Step, octetStep}
 use Rattle.session.specs.declared.Called.{Called}
-use Rattle.session.specs.declared.DirectionOffset.{DirectionOffset}
-use Rattle.session.specs.Calls.{Outcome, prepared, stateOf, arrived, endStep, endCalled as sessionEnded, offset as sessionOffset}
+use Rattle.counts.specs.declared.DirectionOffset.{DirectionOffset}
+use Rattle.setups.specs.Setups.{prepared}
+use Rattle.counts.specs.Counts.{offset as sessionOffset}
+use Rattle.session.specs.Calls.{Outcome, stateOf, arrived, endStep, endCalled as sessionEnded}
 
 -- "the record of a setup that answered 0". Nothing is asked of the addresses: the arrays of the record have their lengths from setup on
 pub record Fresh (su : Setup) (r : Session) : Type 0 where

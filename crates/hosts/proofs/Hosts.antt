@@ -15,8 +15,9 @@ use Rattle.rules.specs.Items.{allToServer, allToClient}
 use Rattle.rules.specs.declared.Answer.{Answer}
 use Rattle.records.specs.Layout.{imageSize}
 use Rattle.records.specs.declared.Session.{Session}
-use Rattle.session.specs.declared.Prepared.{Prepared}
-use Rattle.session.specs.Calls.{Outcome, prepared, preparedFrom, freshSession}
+use Rattle.setups.specs.declared.Prepared.{Prepared}
+use Rattle.setups.specs.Setups.{prepared, preparedFrom, freshSession}
+use Rattle.session.specs.Calls.{Outcome}
 use Rattle.answers.specs.Table.{Situation as TableCall, Result, ofArrival as arrivalResult, ofEnd as endingResult}
 use Rattle.answers.proofs.Rows.{same-number}
 use Rattle.answers.proofs.Table.{setup-zero}
@@ -25,7 +26,7 @@ use Rattle.history.proofs.Demand3.{demand3}
 use Rattle.output.specs.Buffer.{putAt}
 use Rattle.image.specs.Image.{imageOf, sessionOf}
 use Rattle.image.specs.Lent.{arrivedOn, endedOn, imageAfter, serverAfter, clientAfter}
-use Rattle.session.proofs.Octets.{of-size}
+use Rattle.setups.proofs.Octets.{of-size}
 use Rattle.fashlemor.specs.Carried.{Holds}
 use Rattle.fashlemor.proofs.Calls.{room}
 use Rattle.fashlemor.proofs.Carrying.{good-flags, done-size, begun, carried}

@@ -15,7 +15,7 @@ use Rattle.rules.specs.Setup.{ipv4Width}
 use Rattle.records.specs.Layout.{imageSize, openingAt, upRemovedAt, downRemovedAt, mappedAt, commandAt, replyAt, kindsAt}
 use Rattle.octets.proofs.Ranges.{and-both}
 use Rattle.session.specs.Bounds.{Shaped, Progress}
-use Rattle.session.specs.Calls.{deadSession}
+use Rattle.setups.specs.Setups.{deadSession}
 use Rattle.answers.proofs.Lengths.{isOctet, octets-all}
 use Rattle.answers.proofs.Bounds.{progress}
 use Rattle.image.specs.Image.{part, controlIn, fieldsIn, isImage, sessionOf}

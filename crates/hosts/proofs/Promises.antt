@@ -15,8 +15,9 @@ use Rattle.rules.specs.declared.Answer.{Answer}
 use Rattle.records.specs.Layout.{imageSize}
 use Rattle.output.specs.Buffer.{putAt}
 use Rattle.records.specs.declared.Session.{Session}
-use Rattle.session.specs.declared.Prepared.{Prepared}
-use Rattle.session.specs.Calls.{preparedFrom, offset}
+use Rattle.setups.specs.declared.Prepared.{Prepared}
+use Rattle.setups.specs.Setups.{preparedFrom}
+use Rattle.counts.specs.Counts.{offset}
 use Rattle.history.specs.Gateway.{directionNumber, returnedOffset}
 use Rattle.image.specs.Image.{imageOf}
 use Rattle.image.specs.Lent.{imageAfter, serverAfter, clientAfter}

@@ -13,7 +13,9 @@ use Rattle.rules.specs.Demand3.{Call, arrival, ending, Return, Gateway, lentSer
 use Rattle.rules.specs.declared.Answer.{Answer}
 use Rattle.records.specs.Layout.{imageSize}
 use Rattle.output.specs.Buffer.{putAt}
-use Rattle.session.specs.Calls.{Outcome, preparedFrom, offset as sessionOffset}
+use Rattle.setups.specs.Setups.{preparedFrom}
+use Rattle.counts.specs.Counts.{offset as sessionOffset}
+use Rattle.session.specs.Calls.{Outcome}
 use Rattle.records.specs.Controls.{layerIn}
 use Rattle.history.specs.Gateway.{directionNumber, callPieces, returnedOffset}
 use Rattle.image.specs.Image.{imageOf, sessionOf}

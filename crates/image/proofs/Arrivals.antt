@@ -31,7 +31,9 @@ use Rattle.steps.proofs.Lent.{from-front, fixed-same}
 use Rattle.arrivals.proofs.Going.{took-all}
 use Rattle.records.proofs.Limits.{counts-holdable}
 use Rattle.session.specs.declared.Called.{Called}
-use Rattle.session.specs.Calls.{Outcome, counted, takenFor, stateOf, sessionAfter, deadSession, refused, unlessRefused, arrived, endCalled}
+use Rattle.setups.specs.Setups.{deadSession}
+use Rattle.counts.specs.Counts.{counted, takenFor}
+use Rattle.session.specs.Calls.{Outcome, stateOf, sessionAfter, refused, unlessRefused, arrived, endCalled}
 use Rattle.session.proofs.Outcomes.{Promised, arrives}
 use Rattle.image.specs.declared.arrival.Told.{Told}
 use Rattle.image.specs.Image.{markOf, marksIn, marksFrom, numbersFrom, marksOf, numbersOf, arraysOf, imageOf, isSet, part, countsAt, controlIn, fieldsIn, isImage, sessionOf}

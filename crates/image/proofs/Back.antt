@@ -16,7 +16,7 @@ use Rattle.rules.specs.declared.Telnet.{Telnet}
 use Rattle.records.specs.Layout.{liveAt, supportedAt, strictAt, clientPlaceAt, clientTelnetAt, upTakenAt, downTakenAt, clientAt, mappedAt, serverAt, kindsAt, commandAt, replyAt, imageSize, lentMapped, lentServerAddress, lentKinds, lentCommand, lentReply, bitsSize, placesSize, telnetsSize}
 use Rattle.places.specs.declared.Place.{Place}
 use Rattle.records.specs.declared.Session.{Session}
-use Rattle.session.specs.Calls.{deadSession}
+use Rattle.setups.specs.Setups.{deadSession}
 use Rattle.records.proofs.Refusals.{sound-countable}
 use Rattle.image.specs.Image.{
   markOf,

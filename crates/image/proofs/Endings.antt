@@ -22,7 +22,8 @@ use Rattle.records.specs.Controls.{unfinishedOf}
 use Rattle.steps.specs.declared.Written.{Written}
 use Rattle.steps.specs.Steps.{heldOf}
 use Rattle.session.specs.declared.Called.{Called}
-use Rattle.session.specs.Calls.{Outcome, stateOf, sessionAfter, refused, writtenFrom, endStep, heldEnd, bufferAfter, endCalled}
+use Rattle.counts.specs.Counts.{writtenFrom}
+use Rattle.session.specs.Calls.{Outcome, stateOf, sessionAfter, refused, endStep, heldEnd, bufferAfter, endCalled}
 use Rattle.session.proofs.Outcomes.{no-room, let-go, passed-on, untouched, client-ends, server-ends}
 use Rattle.image.specs.declared.arrival.Told.{Told}
 use Rattle.image.specs.Image.{imageOf, part, controlIn, fieldsIn, isImage, sessionOf}

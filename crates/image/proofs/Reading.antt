@@ -26,7 +26,7 @@ use Rattle.records.specs.declared.Session.{Session}
 use Rattle.records.specs.declared.Refusal.{Refusal}
 use Rattle.records.specs.Sound.{sound, refusalOn, refusalOf, refusalBy}
 use Rattle.records.proofs.Refusals.{unsound}
-use Rattle.session.specs.Calls.{deadSession}
+use Rattle.setups.specs.Setups.{deadSession}
 use Rattle.image.specs.Image.{placeOf, telnetOf, isSet, part, countAt, countsAt, controlIn, fieldsIn, atMost, isImage, sessionOf}
 
 pub place-other : (n : ℕ) → (n ≡ 0 → ⊥) → (n ≡ 1 → ⊥) → (n ≡ 2 → ⊥) → Place.Ended ≡ placeOf n

@@ -17,7 +17,7 @@ use Rattle.places.specs.Places.{at}
 use Rattle.records.specs.declared.Control.{Control}
 use Rattle.records.specs.declared.Counts.{Counts}
 use Rattle.records.specs.declared.Session.{Session}
-use Rattle.session.specs.Calls.{deadSession}
+use Rattle.setups.specs.Setups.{deadSession}
 use Rattle.records.specs.Sound.{sound}
 
 -- ---- values as octets

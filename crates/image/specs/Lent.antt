@@ -10,7 +10,8 @@ use Rattle.records.specs.Layout.{commandAt, replyAt, clientPlaceAt, serverPlace
 use Rattle.output.specs.Buffer.{putAt}
 use Rattle.records.specs.declared.Session.{Session}
 use Rattle.session.specs.declared.Called.{Called}
-use Rattle.session.specs.Calls.{Outcome, stateOf, sessionAfter, arrived, writtenFrom, endStep, bufferAfter, endCalled}
+use Rattle.counts.specs.Counts.{writtenFrom}
+use Rattle.session.specs.Calls.{Outcome, stateOf, sessionAfter, arrived, endStep, bufferAfter, endCalled}
 use Rattle.image.specs.declared.arrival.Told.{Told}
 use Rattle.image.specs.Image.{imageOf, sessionOf}
 

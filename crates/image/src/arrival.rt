@@ -7,10 +7,10 @@ use crate::counts_at;
 use crate::put_back;
 use crate::refusal_at;
 use arrivals::take;
+use counts::counts_then;
 use records::Refusal;
 use records::layout;
 use rules::Answer;
-use session::counts_then;
 use steps::Written;
 
 // What a call on an image tells: its answer, how many octets it took, and how many it wrote into each buffer.

@@ -17,6 +17,7 @@ use crate::is_image;
 use crate::number_at;
 use crate::put_number;
 use crate::refusal_in;
+use counts::written_from;
 use gives::passed_length;
 use gives::put_passed;
 use records::Refusal;
@@ -24,7 +25,6 @@ use records::direction_of;
 use records::layout;
 use records::unfinished_of;
 use rules::Answer;
-use session::written_from;
 use telnet::put_unfinished;
 use telnet::unfinished_length;
 

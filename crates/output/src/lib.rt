@@ -4,10 +4,13 @@ ghost use Prim.Native.Nat.{min, _+_, _/_, _%_, _≤_};
 ghost use lib.Dec.{leb};
 ghost use lib.ListN.{length, replicate};
 ghost use Rattle.rules.specs.Octets.{decimal};
+ghost use Rattle.rules.specs.Lines.{mostHeld};
 ghost use Rattle.rules.specs.Setup.{ipv6Width, ipv4Width};
 ghost use Rattle.output.specs.Buffer.{Put, putAt};
+use rules::HELD;
 use rules::IPV4;
 use rules::IPV6;
+use rules::Line;
 
 // The most octets that are moved at once.
 const BLOCK: usize = 1024;
@@ -88,6 +91,15 @@ pub fn ipv4_from(octets: &[u8]) -> [u8; IPV4]
     let mut ipv4 = [0u8; IPV4];
     put(&mut ipv4, 0, octets);
     ipv4
+}
+
+// The same of a line.
+pub fn line_from(octets: &[u8]) -> Line
+    ensures { λ r. ⌜ r ≡ putAt (replicate mostHeld 0) 0 (now (octets .entry)) ⌝ }
+{
+    let mut line = [0u8; HELD];
+    put(&mut line, 0, octets);
+    line
 }
 
 pub fn decimal_length(n: u16) -> usize

@@ -8,10 +8,12 @@ use Rattle.rules.specs.Demand3.{Call, lentServer, lentClient}
 use Rattle.rules.specs.declared.Answer.{Answer}
 use Rattle.rules.specs.declared.Setup.{Setup}
 use Rattle.records.specs.declared.Session.{Session}
-use Rattle.session.specs.declared.Prepared.{Prepared}
+use Rattle.setups.specs.declared.Prepared.{Prepared}
 use Rattle.session.specs.declared.Called.{Called}
-use Rattle.session.specs.declared.DirectionOffset.{DirectionOffset}
-use Rattle.session.specs.Calls.{prepared, bufferAfter, offset}
+use Rattle.counts.specs.declared.DirectionOffset.{DirectionOffset}
+use Rattle.setups.specs.Setups.{prepared}
+use Rattle.counts.specs.Counts.{offset}
+use Rattle.session.specs.Calls.{bufferAfter}
 use Rattle.history.specs.Gateway.{Fresh, outcomeOf, returned, Promise, gateway}
 
 pub fresh-promised : (su : Setup) (r : Prepared) → r ≡ prepared su → r .answer ≡ Answer.Done → Fresh su (r .session)

@@ -6,21 +6,22 @@ ghost use lib.ListN.{length};
 ghost use Rattle.rules.specs.Answers.{sideOf};
 ghost use Rattle.rules.specs.Demand3.{arrival, ending};
 ghost use Rattle.session.specs.Bounds.{Progress};
-ghost use Rattle.session.specs.Calls.{prepared, offset as offsetIn};
+ghost use Rattle.setups.specs.Setups.{prepared};
+ghost use Rattle.counts.specs.Counts.{offset as offsetIn};
 ghost use Rattle.history.specs.Gateway.{gateway, returned};
+use counts::DirectionOffset;
 use records::Session;
 use rules::Answer;
 use rules::Setup;
 use session::Called;
-use session::DirectionOffset;
-use session::Prepared;
+use setups::Prepared;
 
 // A setup that answers 0 returns a fresh session.
 pub fn promised_setup(setup: Setup) -> Prepared
     ensures result { λ r. ⌜ r ≡ prepared setup ⌝ }
     ensures fresh { λ r. ⌜ (r .answer ≡ Answer.Done → gateway .Fresh setup (r .session)) ⌝ }
 {
-    session::setup(setup)
+    setups::setup(setup)
 }
 
 // An arrival keeps the promise of a call, and goes on where there is room.
@@ -61,5 +62,5 @@ pub fn promised_offset(session: Session, direction: u8) -> DirectionOffset
     ensures result { λ r. ⌜ r ≡ offsetIn session direction ⌝ }
     ensures offset { λ r. ⌜ (direction < 2 → r ≡ DirectionOffset.Is (gateway .offset session (sideOf direction))) ⌝ }
 {
-    session::offset(session, direction)
+    counts::offset(session, direction)
 }

@@ -16,7 +16,8 @@ use Rattle.rules.specs.declared.Answer.the-variants as a
 use Rattle.output.proofs.Decimal.{decimal-most}
 use Rattle.records.specs.declared.Session.{Session}
 use Rattle.steps.specs.Steps.{Step}
-use Rattle.session.specs.Calls.{Outcome, refused, unlessRefused, outcome, stateOf, arrived, endStep, endOutcome, endCalled, preparedFrom}
+use Rattle.setups.specs.Setups.{preparedFrom}
+use Rattle.session.specs.Calls.{Outcome, refused, unlessRefused, outcome, stateOf, arrived, endStep, endOutcome, endCalled}
 use Rattle.records.specs.Sound.{refusalOf}
 use Rattle.steps.specs.Takes.{takes}
 use Rattle.octets.proofs.Ranges.{and-both}

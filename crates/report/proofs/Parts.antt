@@ -10,7 +10,7 @@ use Rattle.output.specs.Buffer.{putAt, positionAfter}
 use Rattle.output.proofs.Placing.{nothing-put}
 use Rattle.files.specs.declared.Verdict.{Verdict}
 use Rattle.records.specs.declared.Session.{Session}
-use Rattle.session.specs.Calls.{deadSession}
+use Rattle.setups.specs.Setups.{deadSession}
 use Rattle.files.specs.Contents.{pairAt, count, tableEnd, verdict}
 use Rattle.fields.specs.Report.{Done, runEntry, headerLine}
 use Rattle.fields.specs.Parts.{doneOf}

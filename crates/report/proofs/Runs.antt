@@ -13,11 +13,12 @@ use Rattle.rules.specs.Answers.{Side, client, server, sideOf, answerNumber, fit
 use Rattle.rules.specs.declared.Answer.{Answer}
 use Rattle.session.specs.declared.Called.{Called}
 use Rattle.rules.specs.declared.Fixed.{Fixed}
-use Rattle.session.specs.declared.Prepared.{Prepared}
+use Rattle.setups.specs.declared.Prepared.{Prepared}
 use Rattle.records.specs.declared.Session.{Session}
 use Rattle.steps.specs.Steps.{State, Step, octetStep}
 use Rattle.steps.specs.Takes.{Took, unlessStopped, stopOf, takes}
-use Rattle.session.specs.Calls.{Outcome, preparedFrom, refused, unlessRefused, outcome, stateOf, arrived, endStep, endOutcome, bufferAfter, endCalled}
+use Rattle.setups.specs.Setups.{preparedFrom}
+use Rattle.session.specs.Calls.{Outcome, refused, unlessRefused, outcome, stateOf, arrived, endStep, endOutcome, bufferAfter, endCalled}
 use Rattle.records.specs.Sound.{refusalOf}
 use Rattle.fields.specs.Report.{Done, outRoom, doneBy, setUp, runEntry}
 use Rattle.report.specs.declared.EntryRan.{EntryRan}

@@ -19,7 +19,7 @@ use Rattle.records.specs.declared.Refusal.{Refusal}
 use Rattle.output.specs.Buffer.{putAt}
 use Rattle.steps.specs.Steps.{State, heldOf, letGoOf}
 use Rattle.steps.specs.Takes.{Took, takes, Core, coreFrom, coreTook}
-use Rattle.session.specs.Calls.{Outcome, counted, takenFor, stateOf, sessionAfter, refused, unlessRefused, outcome, arrived, goesTo, writtenFrom, endStep, endOutcome, heldEnd, bufferAfter, endCalled}
+use Rattle.session.specs.Calls.{Outcome, stateOf, sessionAfter, refused, unlessRefused, outcome, arrived, goesTo, endStep, endOutcome, heldEnd, bufferAfter, endCalled}
 use Rattle.records.specs.Sound.{refusalOf, refusalBy, sideIf}
 use Rattle.records.specs.Controls.{unfinishedOf}
 use Rattle.records.proofs.Sides.{not-zero}
@@ -28,18 +28,12 @@ use Rattle.octets.proofs.Passed.{passed-most}
 use Rattle.output.proofs.Placing.{Wrote, after-fits, joined}
 use Rattle.output.proofs.Front.{front-put}
 use Rattle.steps.proofs.Fits.{takes-fit}
+use Rattle.counts.specs.Counts.{counted, takenFor, writtenFrom}
 
 -- a call's result r, and its buffers before and after
 abbrev pub Promised : Outcome → Called → List ℕ → List ℕ → List ℕ → List ℕ → Type 0
 Promised w r out other out′ other′ =
     (r ≡ w .called) × ((out′ ≡ bufferAfter client w out) × (other′ ≡ bufferAfter server w other))
-
--- the counts after a call, from what is added to each
-pub counts-by : (up down : Counts) (d : Side) (n toServer toClient : ℕ) {here there : ℕ} {u v : Counts} → here ≡ takenFor client d n
-    → there ≡ takenFor server d n → u ≡ counted up here toServer → v ≡ counted down there toClient
-    → (u ≡ counted up (takenFor client d n) toServer) × (v ≡ counted down (takenFor server d n) toClient)
-counts-by up down d n toServer toClient p q u v =
-    (u ∙ ap (λ (m : ℕ). counted up m toServer) p, v ∙ ap (λ (m : ℕ). counted down m toClient) q)
 
 -- the record after a call, from the two counts
 pub advanced : (s : Session) (d : Side) (n toServer toClient : ℕ) (t : State) {up down : Counts}

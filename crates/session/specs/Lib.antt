@@ -1,3 +1,3 @@
--- What setup, arrival and end do to the record and the buffers, on the declared structs.
+-- What an arrival and an end do to the record and the buffers, on the declared structs.
 pub mod Calls
 pub mod Bounds

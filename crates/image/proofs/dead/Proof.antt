@@ -1,6 +1,6 @@
 -- `image::dead`: the record of a refused setup.
 use mathlib.Core.Path.{ap}
-use Rattle.session.specs.declared.Prepared.{Prepared}
+use Rattle.setups.specs.declared.Prepared.{Prepared}
 use borrow.Author.Needs.{needs}
 use Rattle.image.proofs.dead.Statement.{statement}
 use Rattle.image.proofs.dead.Tie as tie

@@ -1,6 +1,6 @@
 -- `report::no_session`: the record of a refused setup.
 use mathlib.Core.Path.{ap}
-use Rattle.session.specs.declared.Prepared.{Prepared}
+use Rattle.setups.specs.declared.Prepared.{Prepared}
 use borrow.Author.Needs.{needs}
 use Rattle.report.proofs.no_session.Statement.{statement}
 use Rattle.report.proofs.no_session.Tie as tie

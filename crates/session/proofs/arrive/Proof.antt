@@ -46,7 +46,7 @@ returns-2 c =
     ∙ (λ i. takes (fixed i) side (state i) (a .octets .now) m n) in
     let after = c .after .ensures
     ∙ ap (sessionAfter s side (t .result .taken) (t .result .written .server) (t .result .written .client))
-    (arrays-back (t .result .control) (t .last .1 .1 .1 .1 .1 .0) (t .kept .1 .1 .1 .1 .1 .0 ∙ size) (c .before .before .before .before .before .before .before .before .before .kinds-from .ensures) (c .before .before .before .before .before .before .held-line .ensures) (c .before .before .before .held-line2 .ensures)) in
+    (arrays-back (t .result .control) (t .last .1 .1 .1 .1 .1 .0) (t .kept .1 .1 .1 .1 .1 .0 ∙ size) (c .before .before .before .before .before .before .before .before .before .kinds-from .ensures) (c .before .before .before .before .before .before .line-from .ensures) (c .before .before .before .line-from2 .ensures)) in
     arrives s (a .direction) (a .octets .now) (a .to-server .now) (a .to-client .now) side (side-tested (a .direction)) free
     all
     (t .ensures .0 .0 .0)

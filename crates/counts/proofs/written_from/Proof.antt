@@ -1,6 +1,6 @@
--- `session::written_from` meets its contract: by the side.
-use Rattle.session.proofs.written_from.Statement.{statement}
-use Rattle.session.proofs.written_from.Tie as tie
+-- `counts::written_from` meets its contract: by the side.
+use Rattle.counts.proofs.written_from.Statement.{statement}
+use Rattle.counts.proofs.written_from.Tie as tie
 
 returns : tie.Need-returns
 returns c = rw (c .if1 .taken)

@@ -11,8 +11,8 @@ use Rattle.rules.specs.Setup.{ipv6Width, ipv4Width, setupSize, setupIn}
 use Rattle.rules.specs.declared.Setup.{Setup}
 use Rattle.output.specs.Buffer.{putAt}
 use Rattle.output.proofs.Front.{filled}
-use Rattle.session.specs.declared.Prepared.{Prepared}
-use Rattle.session.specs.Calls.{prepared, refusedSetup, preparedFrom}
+use Rattle.setups.specs.declared.Prepared.{Prepared}
+use Rattle.setups.specs.Setups.{prepared, refusedSetup, preparedFrom}
 
 module _ (octets : List ℕ) where
   pub wrong-size : (length octets ≡ setupSize → ⊥) → refusedSetup ≡ preparedFrom octets

@@ -1,10 +1,10 @@
--- `session::setup` meets its contract. Each way out is one law of the flags.
+-- `setups::setup` meets its contract. Each way out is one law of the flags.
 use mathlib.Core.Path.{refl, _∙_}
 use mathlib.Core.Logic.{⊎-elim}
 use borrow.Author.Needs.{needs}
-use Rattle.session.proofs.Flags.{undefined-flag, unsupported, fresh}
-use Rattle.session.proofs.setup.Statement.{statement}
-use Rattle.session.proofs.setup.Tie as tie
+use Rattle.setups.proofs.Flags.{undefined-flag, unsupported, fresh}
+use Rattle.setups.proofs.setup.Statement.{statement}
+use Rattle.setups.proofs.setup.Tie as tie
 
 returns : tie.Need-returns
 returns c = let a = c .before .before .args in c .refused-setup .ensures ∙ undefined-flag (a .setup) refl (c .before .if1 .taken)

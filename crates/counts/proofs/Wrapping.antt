@@ -6,16 +6,23 @@ use native.Mathlib.Nat.{add-mod-mod, add-mod-right, mod-eq-of-lt}
 use native.Mathlib.Omega.{arith}
 use lib.Dec.{ltb}
 use borrow.Author.Tests.{ltb-true, ltb-false}
-use Rattle.rules.specs.Answers.{wrapped, offsetOf}
-use Rattle.session.specs.declared.DirectionOffset.{DirectionOffset}
+use Rattle.rules.specs.Answers.{Side, client, server, wrapped, offsetOf}
+use Rattle.counts.specs.declared.DirectionOffset.{DirectionOffset}
 use Rattle.records.specs.declared.Counts.{Counts}
 use Rattle.records.specs.declared.Session.{Session}
-use Rattle.session.specs.Calls.{offset}
+use Rattle.counts.specs.Counts.{counted, takenFor, offset}
 
 -- what is added may be wrapped first
 pub wrapped-sum : (a n : ℕ) {m r : ℕ} → m ≡ wrapped n → r ≡ (a + m) % 2 ^ 32 → r ≡ wrapped (a + n)
 unfolding wrapped
 wrapped-sum a n p q = q ∙ rw p (add-mod-mod a n (2 ^ 32))
+
+-- the counts after a call, from what is added to each
+pub counts-by : (up down : Counts) (d : Side) (n toServer toClient : ℕ) {here there : ℕ} {u v : Counts} → here ≡ takenFor client d n
+    → there ≡ takenFor server d n → u ≡ counted up here toServer → v ≡ counted down there toClient
+    → (u ≡ counted up (takenFor client d n) toServer) × (v ≡ counted down (takenFor server d n) toClient)
+counts-by up down d n toServer toClient p q u v =
+    (u ∙ ap (λ (m : ℕ). counted up m toServer) p, v ∙ ap (λ (m : ℕ). counted down m toClient) q)
 
 turns : (m r t w : ℕ) → r < m → t < m → w ≡ (r + t) % m → (b : Bool) → ltb (r + t) m ≡ b → r ≡ (w + (m - t)) % m
 turns m r t w hr ht e true k =

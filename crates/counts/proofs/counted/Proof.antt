@@ -1,8 +1,8 @@
--- `session::counted` meets its contract: wrapping what is added first changes nothing.
+-- `counts::counted` meets its contract: wrapping what is added first changes nothing.
 use borrow.Author.Needs.{needs}
-use Rattle.session.proofs.Wrapping.{wrapped-sum}
-use Rattle.session.proofs.counted.Statement.{statement}
-use Rattle.session.proofs.counted.Tie as tie
+use Rattle.counts.proofs.Wrapping.{wrapped-sum}
+use Rattle.counts.proofs.counted.Statement.{statement}
+use Rattle.counts.proofs.counted.Tie as tie
 
 returns : tie.Need-returns
 returns c =

@@ -1,8 +1,8 @@
--- `session::start` meets its contract: the lengths of the arrays are those of their types.
+-- `setups::start` meets its contract: the lengths of the arrays are those of their types.
 use mathlib.Core.Path.{refl}
 use Rattle.rules.specs.Lines.{judged}
-use Rattle.session.proofs.start.Statement.{statement}
-use Rattle.session.proofs.start.Tie as tie
+use Rattle.setups.proofs.start.Statement.{statement}
+use Rattle.setups.proofs.start.Tie as tie
 
 returns : tie.Need-returns
 unfolding judged

@@ -1,12 +1,12 @@
--- `session::setup_from` meets its contract: another number of octets, or its parts one by one.
+-- `setups::setup_from` meets its contract: another number of octets, or its parts one by one.
 use mathlib.Core.Path.{sym, _∙_}
 use native.Mathlib.Omega.{arith}
 use lib.Seq.{length-take-le}
 use borrow.Author.Needs.{needs}
 use Rattle.rules.specs.Setup.{ipv6Width}
-use Rattle.session.proofs.Octets.{wrong-size, set-up}
-use Rattle.session.proofs.setup_from.Statement.{statement}
-use Rattle.session.proofs.setup_from.Tie as tie
+use Rattle.setups.proofs.Octets.{wrong-size, set-up}
+use Rattle.setups.proofs.setup_from.Statement.{statement}
+use Rattle.setups.proofs.setup_from.Tie as tie
 
 returns : tie.Need-returns
 returns c =

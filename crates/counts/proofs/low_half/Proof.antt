@@ -1,9 +1,9 @@
--- `session::low_half` meets its contract: 4294967296 is 2 ^ 32.
+-- `counts::low_half` meets its contract: 4294967296 is 2 ^ 32.
 use mathlib.Core.Path.{refl}
 use borrow.Author.Needs.{needs}
 use Rattle.rules.specs.Answers.{wrapped}
-use Rattle.session.proofs.low_half.Statement.{statement}
-use Rattle.session.proofs.low_half.Tie as tie
+use Rattle.counts.proofs.low_half.Statement.{statement}
+use Rattle.counts.proofs.low_half.Tie as tie
 
 returns : tie.Need-returns
 unfolding wrapped

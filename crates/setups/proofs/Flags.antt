@@ -11,9 +11,9 @@ use Rattle.rules.specs.Octets.{choose}
 use Rattle.rules.specs.Setup.{bit, setupSwitches, badFlags, setupAnswer}
 use Rattle.rules.specs.declared.Answer.{Answer}
 use Rattle.rules.specs.declared.Setup.{Setup}
-use Rattle.session.specs.declared.Prepared.{Prepared}
+use Rattle.setups.specs.declared.Prepared.{Prepared}
 use Rattle.records.specs.declared.Session.{Session}
-use Rattle.session.specs.Calls.{startSession, startControl, refusedSetup, freshSession, prepared}
+use Rattle.setups.specs.Setups.{startSession, startControl, refusedSetup, freshSession, prepared}
 
 abbrev pub shifted : ℕ → ℕ → Bool
 shifted i n = eqb (bitAnd (n / 2 ^ i) 1) 1

@@ -1,10 +1,10 @@
--- `session::counts_then` meets its contract. The octets taken count for the side that they came from.
+-- `counts::counts_then` meets its contract. The octets taken count for the side that they came from.
 use mathlib.Core.Logic.{⊎-elim}
 use borrow.Author.Needs.{needs}
 use Rattle.records.specs.Sound.{sideIf}
-use Rattle.session.proofs.Outcomes.{counts-by}
-use Rattle.session.proofs.counts_then.Statement.{statement}
-use Rattle.session.proofs.counts_then.Tie as tie
+use Rattle.counts.proofs.Wrapping.{counts-by}
+use Rattle.counts.proofs.counts_then.Statement.{statement}
+use Rattle.counts.proofs.counts_then.Tie as tie
 
 returns : tie.Need-returns
 returns c =

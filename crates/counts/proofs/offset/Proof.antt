@@ -1,11 +1,11 @@
--- `session::offset` meets its contract: what wraps back to the octets written is the difference.
+-- `counts::offset` meets its contract: what wraps back to the octets written is the difference.
 use mathlib.Core.Logic.{⊎-elim}
 use Prim.Native.Nat.{_^_, _<_}
 use native.Mathlib.Omega.{arith}
 use borrow.Author.Needs.{needs}
-use Rattle.session.proofs.Wrapping.{other-direction, server-offset, client-offset}
-use Rattle.session.proofs.offset.Statement.{statement}
-use Rattle.session.proofs.offset.Tie as tie
+use Rattle.counts.proofs.Wrapping.{other-direction, server-offset, client-offset}
+use Rattle.counts.proofs.offset.Statement.{statement}
+use Rattle.counts.proofs.offset.Tie as tie
 
 returns : tie.Need-returns
 returns c = other-direction (c .before .args .session) (c .before .args .direction) (c .if1 .taken)
