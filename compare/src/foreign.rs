@@ -4,6 +4,7 @@
 use std::collections::BTreeSet;
 
 use crate::gateways::Seen;
+use crate::multi_line::finished;
 use crate::session::{Call, Setup, What, STRICT};
 
 /// Each has to be come to.
@@ -84,12 +85,8 @@ impl Foreign {
     }
 
     fn server(&mut self, taken: &[u8], seen: &Seen) {
-        for piece in taken.split_inclusive(|&octet| octet == b'\n') {
-            self.server_line.extend(piece);
-            if piece.ends_with(b"\n") {
-                let line = std::mem::take(&mut self.server_line);
-                self.finish(&line, piece, seen);
-            }
+        for (line, piece) in finished(&mut self.server_line, taken) {
+            self.finish(&line, piece, seen);
         }
     }
 

@@ -80,6 +80,19 @@ pub struct MultiLine {
     over: bool,
 }
 
+/// The lines that end in what a call took, each with the piece of it that the call took; what has no
+/// LF yet stays begun.
+pub fn finished<'a>(begun: &mut Vec<u8>, taken: &'a [u8]) -> Vec<(Vec<u8>, &'a [u8])> {
+    let mut lines = Vec::new();
+    for piece in taken.split_inclusive(|&octet| octet == b'\n') {
+        begun.extend(piece);
+        if piece.ends_with(b"\n") {
+            lines.push((std::mem::take(begun), piece));
+        }
+    }
+    lines
+}
+
 impl MultiLine {
     pub fn look(&mut self, call: &Call, seen: &Seen) {
         let taken = &call.octets()[..seen.taken];
@@ -160,12 +173,8 @@ impl MultiLine {
     }
 
     fn server(&mut self, taken: &[u8], seen: &Seen) {
-        for piece in taken.split_inclusive(|&octet| octet == b'\n') {
-            self.server_line.extend(piece);
-            if piece.ends_with(b"\n") {
-                let line = std::mem::take(&mut self.server_line);
-                self.finish(&line, piece, seen);
-            }
+        for (line, piece) in finished(&mut self.server_line, taken) {
+            self.finish(&line, piece, seen);
         }
     }
 
