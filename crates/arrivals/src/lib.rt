@@ -1,4 +1,6 @@
 // The octets of an arrival, by lines, runs and octets, until one has to wait.
+#![tactic(auto)]
+
 ghost use Rattle.std.specs.Prelude.{◌≡◌, ◌≤◌, length};
 ghost use Rattle.records.specs.Layout.{lent_size};
 ghost use Rattle.records.specs.Sound.{Counted, side_if};

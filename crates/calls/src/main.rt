@@ -4,6 +4,8 @@
 // length in two octets each, and that many octets.
 // A call's result is its answer, the octets taken, written to the server and written to the client in four octets
 // each, those written, and the offsets.
+#![tactic(auto)]
+
 ghost use Rattle.std.specs.Prelude.{◌≡◌, ◌≤◌, length};
 
 use counts::DirectionOffset;

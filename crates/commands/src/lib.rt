@@ -1,4 +1,6 @@
 // What a client line judged whole is to the gateway.
+#![tactic(auto)]
+
 ghost use Rattle.std.specs.Prelude.{◌≡◌, true, ◌<◌, eqb, length};
 ghost use Rattle.rules.specs.Octets.{choose, every, digit, value};
 ghost use Rattle.rules.specs.Lines.{word as word_of, starts_auth};

@@ -1,4 +1,6 @@
 // Counts: what each direction has taken and written, and its offset.
+#![tactic(auto)]
+
 ghost use Rattle.std.specs.Prelude.{◌≡◌};
 ghost use Rattle.rules.specs.Answers.{wrapped, client as client_side, server as server_side};
 ghost use Rattle.records.specs.Sound.{side_if};

@@ -1,6 +1,8 @@
 // Writes every port twice, by `output::put_decimal` and the way that it went before, by tens and remainders of ten, and
 // compares all octets of the two buffers. The proof speaks of the definition; this runs both, as compiled into this
 // program.
+#![tactic(auto)]
+
 use libc::STDOUT_FILENO;
 
 const PORTS: u32 = 65536;

@@ -1,5 +1,7 @@
 // What one octet of the server does on the server's side: what it gives, where its direction stands then, and how
 // many owed kinds it removes.
+#![tactic(auto)]
+
 ghost use Rattle.std.specs.Prelude.{◌≡◌, eqb};
 ghost use Rattle.rules.specs.Octets.{lf, choose};
 ghost use Rattle.rules.specs.Replies.{is_open, passive_reply, foreign};

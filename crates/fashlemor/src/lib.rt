@@ -1,5 +1,7 @@
 // The gateway for a host in C: setup, arrival, end and offset over numbers and slices, with the record as an image in
 // the host's memory.
+#![tactic(auto)]
+
 ghost use Rattle.std.specs.Prelude.{◌≡◌};
 ghost use Rattle.rules.specs.Answers.{answer_number};
 ghost use Rattle.output.specs.Buffer.{put_at};

@@ -1,4 +1,6 @@
 // The lines of a session file's report, field by field. A line goes in whole or not at all.
+#![tactic(auto)]
+
 ghost use Rattle.std.specs.Prelude.{◌≡◌, ◌++◌, ◌+◌, ◌<◌, leb, length};
 ghost use Rattle.rules.specs.Octets.{decimal};
 ghost use Rattle.output.specs.Buffer.{Put, PutInRoom};

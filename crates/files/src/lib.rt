@@ -1,4 +1,6 @@
 // Session files: which are refused.
+#![tactic(auto)]
+
 ghost use Rattle.std.specs.Prelude.{◌≡◌, ◌+◌, ◌<◌, ◌≤◌, length, get_or, drop};
 ghost use Rattle.files.specs.Contents.{pair_at, entry_of, good_entry, verdict};
 

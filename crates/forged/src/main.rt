@@ -5,6 +5,8 @@
 // A line is the answer's number, the octets taken, those written to the server and to the client, the first and the
 // last octet of each buffer (7 where it is untouched), and of the record: the replies owed, the octets held of either
 // direction, and the octets taken from either side.
+#![tactic(auto)]
+
 use libc::STDOUT_FILENO;
 use places::{Direction, Place};
 use records::{Control, Session};

@@ -1,4 +1,6 @@
 // What an octet gives to the other side, and its octets put into a buffer. Those of a line leave with each 255 doubled.
+#![tactic(auto)]
+
 ghost use Rattle.std.specs.Prelude.{◌≡◌, ◌++◌, ◌∷◌, [], min, ◌≤◌, length};
 ghost use Rattle.rules.specs.Lines.{passed, most_held};
 ghost use Rattle.output.specs.Buffer.{Put, PutInRoom};

@@ -1,5 +1,7 @@
 // Demand 3 for a host in C, whose memory is the record. The functions that C calls stand here once more, with the
 // promises that the claim is proved from as their contracts: that they keep them is proved, not read.
+#![tactic(auto)]
+
 ghost use Rattle.std.specs.Prelude.{◌≡◌, ◌<◌, length, get_or};
 ghost use Rattle.rules.specs.Answers.{answer_number, side_of};
 ghost use Rattle.rules.specs.Setup.{setup_in};

@@ -1,4 +1,6 @@
 // The record as octets in lent memory, so that a host can keep it between calls.
+#![tactic(auto)]
+
 ghost use Rattle.std.specs.Prelude.{◌≡◌, ◌+◌, ◌≤◌, ◌++◌, length};
 ghost use Rattle.rules.specs.Lines.{most_held};
 ghost use Rattle.records.specs.Layout.{number_width, epsv_at, opening_at, image_size};

@@ -1,4 +1,6 @@
 // The parts of a held line, which is given without its LF.
+#![tactic(auto)]
+
 ghost use Rattle.std.specs.Prelude.{◌≡◌, ◌+◌, ◌-◌, ◌≤◌, length, take, drop};
 ghost use Rattle.rules.specs.Octets.{space, is, run, trim_end};
 ghost use Rattle.rules.specs.Lines.{content as content_of, argument as argument_of};

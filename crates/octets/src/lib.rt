@@ -1,4 +1,6 @@
 // Scans, comparisons and decimal numbers over slices of octets.
+#![tactic(auto)]
+
 ghost use Rattle.std.specs.Prelude.{◌≡◌, true, ◌+◌, drop};
 ghost use Rattle.rules.specs.Octets.{run, is_not, every, digit, capital as capital_of, alike as alike_of};
 ghost use Rattle.rules.specs.Octets.{value as value_of, number as number_of};

@@ -1,4 +1,6 @@
 // Octets and decimal numbers put into a lent buffer, or octets into an array, whole or not at all.
+#![tactic(auto)]
+
 ghost use Rattle.std.specs.Prelude.{◌≡◌, min, ◌+◌, ◌/◌, ◌%◌, ◌≤◌, leb, length, replicate};
 ghost use Rattle.rules.specs.Octets.{decimal};
 ghost use Rattle.rules.specs.Lines.{most_held};

@@ -1,4 +1,6 @@
 // The gateway's own answers, each with its length known before it is written. An answer goes in whole or not at all.
+#![tactic(auto)]
+
 ghost use Rattle.std.specs.Prelude.{◌≡◌, length};
 ghost use Rattle.rules.specs.Replies.{state_line, answer_line};
 ghost use Rattle.output.specs.Buffer.{Put};

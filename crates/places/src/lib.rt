@@ -1,4 +1,6 @@
 // Where a direction stands, what that says of its octets, and how much of its line may be held.
+#![tactic(auto)]
+
 ghost use Rattle.std.specs.Prelude.{◌≡◌, true, ◌+◌, ◌<◌, ltb, take};
 ghost use Rattle.rules.specs.Lines.{judged};
 ghost use Rattle.places.specs.Places.{at, is_holding, is_flowing, is_passing, is_in_lines, is_ended};

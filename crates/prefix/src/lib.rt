@@ -1,6 +1,8 @@
 // IPv4 addresses inside IPv6 addresses, behind a prefix (RFC 6052): put in, and taken out again. Bits 64 to 71 lie
 // between the octets of some; without them prefix, IPv4 address and suffix stand one behind the other for every length,
 // and that is how both functions go about it.
+#![tactic(auto)]
+
 ghost use Rattle.std.specs.Prelude.{◌≡◌, ◌≤◌, length, take, drop};
 ghost use Rattle.output.specs.Buffer.{put_at};
 ghost use Rattle.prefix.specs.Prefix.{prefix_lengths, is_one_of, prefix_of, reserved, has_reserved_bits, ipv4_at};

@@ -1,6 +1,8 @@
 // Puts IPv4 addresses behind prefixes and takes them out again, as the lines of its standard input ask: a prefix, `/`
 // and its length, a space and an IPv4 address behind `::`, where it is the end of an IPv6 text; or an IPv6 address, `/`
 // and the length of its prefix. For each it writes the number of the answer and the octets of the address.
+#![tactic(auto)]
+
 ghost use Rattle.std.specs.Prelude.{◌≤◌, length};
 
 use libc::{STDIN_FILENO, STDOUT_FILENO};

@@ -1,5 +1,7 @@
 // The session's functions once more, with the promises that demand 3 is proved from as their contracts: that the
 // session keeps them is proved, not read.
+#![tactic(auto)]
+
 ghost use Rattle.std.specs.Prelude.{◌≡◌, ◌<◌, length};
 ghost use Rattle.rules.specs.Answers.{side_of};
 ghost use Rattle.rules.specs.Demand3.{arrival, ending};

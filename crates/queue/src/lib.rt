@@ -1,5 +1,7 @@
 // The queue of replies owed, as the record has it: kinds as numbers, the first kind, the own answers at its head, and
 // what is put in and leaves.
+#![tactic(auto)]
+
 ghost use Rattle.std.specs.Prelude.{◌≡◌, ◌+◌, ◌≤◌, length, drop, replicate};
 ghost use Rattle.rules.specs.Replies.{head_answers, auth_at_head};
 ghost use Rattle.rules.specs.Answers.{most_answers, most_owed};

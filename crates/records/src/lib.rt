@@ -1,4 +1,6 @@
 // The record of a session, its control rebuilt, and what is refused or has to wait.
+#![tactic(auto)]
+
 ghost use Rattle.std.specs.Prelude.{◌≡◌};
 ghost use Rattle.rules.specs.Octets.{every};
 ghost use Rattle.rules.specs.Answers.{side_of, is_queue_full};

@@ -1,4 +1,6 @@
 // Writes the report of a session file: the one that is named, or standard input.
+#![tactic(auto)]
+
 ghost use Rattle.std.specs.Prelude.{◌≡◌, length};
 ghost use Rattle.report.specs.Whole.{most_part};
 

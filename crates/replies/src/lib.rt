@@ -1,4 +1,6 @@
 // What a server line is to its reply, and the 227 reader.
+#![tactic(auto)]
+
 ghost use Rattle.std.specs.Prelude.{◌≡◌, true, ◌+◌, ◌-◌, ◌≤◌, ◌<◌, length, drop};
 ghost use Rattle.rules.specs.Octets.{run, digit, not_digit};
 ghost use Rattle.rules.specs.Replies.{starts_with_code, reply_code, reply_end, line_outside, line_inside, reply_line};

@@ -1,5 +1,7 @@
 // The report of a session file, written part by part into a lent buffer: the header or the refusal, then the line of
 // each entry.
+#![tactic(auto)]
+
 ghost use Rattle.std.specs.Prelude.{◌≡◌, ◌≤◌, eqb, length, take};
 ghost use Rattle.rules.specs.Octets.{choose};
 ghost use Rattle.output.specs.Buffer.{Put, put_at};

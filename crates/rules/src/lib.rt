@@ -1,5 +1,7 @@
 // The sizes of the rules, and their terms as types: the definitions in specs/ go by cases on them, and functions take
 // and return them.
+#![tactic(auto)]
+
 ghost use Rattle.std.specs.Prelude.{◌≡◌};
 ghost use Rattle.rules.specs.Answers.{answer_number};
 

@@ -2,6 +2,8 @@
 // one octet at a time; a block that is read whole, with no way out in its middle, is compiled to comparisons of many
 // octets at once. So blocks of ordinary octets are gone over first, large ones and then small ones, and only what is
 // left octet by octet.
+#![tactic(auto)]
+
 ghost use Rattle.std.specs.Prelude.{◌≡◌, not, ◌+◌, ◌<◌, drop};
 ghost use Rattle.rules.specs.Octets.{run, is_not, every, iac};
 ghost use Rattle.rules.specs.Lines.{is_ordinary};

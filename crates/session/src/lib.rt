@@ -1,4 +1,6 @@
 // The session: arrival and end, for every record and every buffer.
+#![tactic(auto)]
+
 ghost use Rattle.std.specs.Prelude.{◌≡◌, List, ◌++◌, length, ℕ};
 ghost use Rattle.rules.specs.Answers.{client as client_side, server as server_side, most_owed};
 ghost use Rattle.rules.specs.Lines.{most_held};

@@ -1,4 +1,6 @@
 // Setup: the record of a session, from a setup or from its octets.
+#![tactic(auto)]
+
 ghost use Rattle.std.specs.Prelude.{◌≡◌};
 ghost use Rattle.setups.specs.Setups.{prepared, start_session, start_control, refused_setup, prepared_from};
 

@@ -1,4 +1,6 @@
 // One octet of a direction, over what is lent of a record.
+#![tactic(auto)]
+
 ghost use Rattle.std.specs.Prelude.{◌≡◌, false, length};
 ghost use borrow.Rule.Slice.PartMut.{put_mid};
 ghost use Rattle.rules.specs.Answers.{is_queue_full, most_owed};

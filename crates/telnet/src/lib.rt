@@ -1,4 +1,6 @@
 // The Telnet layer: what each octet of a direction does in it, before any line is looked at.
+#![tactic(auto)]
+
 ghost use Rattle.std.specs.Prelude.{◌≡◌, ◌≤◌, length};
 ghost use Rattle.rules.specs.Telnet.{after_iac, telnet_octet, layer_octet, answer_of, command_of, unfinished, removed_after};
 ghost use Rattle.rules.specs.Telnet.{is_clear, cleared as cleared_of};

@@ -1,5 +1,7 @@
 // What one octet of the client does on the client's side: what it gives, where its direction stands then, and what is
 // owed for it.
+#![tactic(auto)]
+
 ghost use Rattle.std.specs.Prelude.{◌≡◌, eqb, take};
 ghost use Rattle.rules.specs.Octets.{lf, choose};
 ghost use Rattle.rules.specs.Commands.{answer_switches};

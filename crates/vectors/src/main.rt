@@ -1,6 +1,8 @@
 // Runs the readers and writers of lines on the vectors of its standard input, one on each line: a letter that says
 // which reader, a space, the text. For each it writes what was read, so that the output can be compared with what
 // others read.
+#![tactic(auto)]
+
 use libc::{STDIN_FILENO, STDOUT_FILENO};
 use octets::Number;
 use rules::{Command, Does, Fixed, IPV4, IPV6, PassiveReply, ReplyLine, Switches, Telnet};

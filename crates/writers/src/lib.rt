@@ -1,5 +1,7 @@
 // The lines that the gateway writes for a command or a reply, each with its length known before it is written. A line
 // goes in whole or not at all.
+#![tactic(auto)]
+
 ghost use Rattle.std.specs.Prelude.{◌≡◌, [], ◌∷◌, ◌++◌, ◌≤◌, length};
 ghost use Rattle.rules.specs.Commands.{commas, pasv_line, port_line};
 ghost use Rattle.rules.specs.Replies.{extended_passive_line, cannot_open_line};
