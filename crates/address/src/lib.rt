@@ -14,14 +14,14 @@ use octets::{Number, find, read_number};
 use rules::IPV6;
 
 // An address that a text writes, or none, and then the octets are zeros.
-#[derive(Drop)]
+#[derive(Clone, Copy)]
 pub struct Ipv6Read {
     pub valid: bool,
     pub octets: [u8; IPV6],
 }
 
 // The octets of a group of hex digits.
-#[derive(Drop)]
+#[derive(Clone, Copy)]
 enum Group {
     Octets(u8, u8),
     Nothing,
@@ -29,7 +29,7 @@ enum Group {
 
 // What is read so far: whether it is valid still, and how many octets it has, at most sixteen. What is not valid stays
 // so. The octets lie in an array that is lent: handed on by value it would be loaded whole after each octet stored.
-#[derive(Drop)]
+#[derive(Clone, Copy)]
 struct Reading {
     pub valid: bool,
     pub count: usize,

@@ -22,7 +22,7 @@ mod plain;
 mod running;
 
 // What stopped an arrival and how many octets it took; and the control and the counts then.
-#[derive(Drop)]
+#[derive(Clone, Copy)]
 pub struct Taken {
     pub answer: Answer,
     pub taken: usize,

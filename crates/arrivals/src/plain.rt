@@ -30,7 +30,7 @@ use telnet::is_clear;
 
 // How far one plain line of the client, or several, reach, and whether another may follow; and how many octets are
 // held, replies owed and octets written then.
-#[derive(Drop)]
+#[derive(Clone, Copy)]
 pub struct Said {
     pub more: bool,
     pub taken: usize,
@@ -40,7 +40,7 @@ pub struct Said {
 }
 
 // The same of the server, and the code that opened the reply in which it stands, or 0.
-#[derive(Drop)]
+#[derive(Clone, Copy)]
 pub struct Answered {
     pub more: bool,
     pub taken: usize,

@@ -21,7 +21,7 @@ use steps::Written;
 use telnet::is_clear;
 
 // How far a run goes, and the control and the counts then.
-#[derive(Drop)]
+#[derive(Clone, Copy)]
 pub struct RunPart {
     pub taken: usize,
     pub control: Control,
@@ -29,7 +29,7 @@ pub struct RunPart {
 }
 
 // How far a run of one direction goes, where the direction stands then, and where its output ends.
-#[derive(Drop)]
+#[derive(Clone, Copy)]
 pub struct DirectionRun {
     pub taken: usize,
     pub direction: Direction,

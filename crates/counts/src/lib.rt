@@ -10,14 +10,14 @@ use records::{Counts, Session};
 use steps::Written;
 
 // The counts of both directions.
-#[derive(Drop)]
+#[derive(Clone, Copy)]
 pub struct BothCounts {
     pub up: Counts,
     pub down: Counts,
 }
 
 // A direction's offset, for a direction that there is.
-#[derive(Drop)]
+#[derive(Clone, Copy)]
 pub enum DirectionOffset {
     Is(u32),
     UnknownDirection,

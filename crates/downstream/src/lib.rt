@@ -17,7 +17,7 @@ use rules::{Fixed, IPV4, Kind, PassiveReply, ReplyLine};
 
 // What a server octet does on the server's side; also how many owed kinds it removes, and the code of the reply that
 // is open then.
-#[derive(Drop)]
+#[derive(Clone, Copy)]
 pub struct ServerEffect {
     pub gives: Gives,
     pub direction: Direction,

@@ -10,7 +10,7 @@ ghost use Rattle.fields.specs.Parts.{room_after, done_of};
 use output::{decimal_length, put, put_decimal};
 
 // The room that is left after a text, or none where the text does not fit.
-#[derive(Drop)]
+#[derive(Clone, Copy)]
 enum Room {
     Left(usize),
     Full,

@@ -7,7 +7,7 @@ ghost use Rattle.files.specs.Contents.{pair_at, entry_of, good_entry, verdict};
 use rules::SETUP;
 
 // A session file is refused with number 7 or 8, or it is one.
-#[derive(Drop)]
+#[derive(Clone, Copy)]
 pub enum Verdict {
     WrongLength,
     WrongTable,

@@ -17,7 +17,7 @@ const MOST_COUNTED: usize = 18446744073709551615;
 
 // What an octet gives: nothing since it is held; nothing; itself, as it passes at once; itself, in a line that flows;
 // the held octets and itself; or a line of the gateway's.
-#[derive(Drop)]
+#[derive(Clone, Copy)]
 pub enum Gives {
     Held,
     Nothing,

@@ -11,7 +11,7 @@ use rules::Answer;
 use steps::Written;
 
 // What a call on an image tells: its answer, how many octets it took, and how many it wrote into each buffer.
-#[derive(Drop)]
+#[derive(Clone, Copy)]
 pub struct Told {
     pub answer: Answer,
     pub taken: usize,

@@ -69,7 +69,7 @@ pub fn alike(s: &[u8], w: &[u8]) -> bool
 }
 
 // A number read from a whole text.
-#[derive(Drop)]
+#[derive(Clone, Copy)]
 pub enum Number {
     Value(u32),
     Unreadable,

@@ -38,6 +38,7 @@ decimal-one n h = by_one n n h
 
 pub decimal_step : (n : ℕ) → 10 ≤ n → decimal n ≡ decimal (n / 10) ++ ((48 + n % 10) ∷ [])
 unfolding decimal
+decimal_step zero h = elim h [ ]
 decimal_step (suc n) h = by-step n (suc n) h ∙ ap (λ (l : List ℕ). l ++ ((48 + suc n % 10) ∷ [])) (by-any n (suc n / 10) (suc n / 10) (omega arith) (omega arith))
 
 -- a number from 10 ^ k to below 10 ^ (k + 1) has k + 1 digits

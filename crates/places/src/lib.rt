@@ -11,7 +11,7 @@ use rules::HELD;
 pub const LF: u8 = 10;
 
 // Where a direction stands: its line's octets are held, its long line flows, its octets pass at once, or it has ended.
-#[derive(Drop)]
+#[derive(Clone, Copy)]
 pub enum Place {
     Holding,
     Flowing,
@@ -20,7 +20,7 @@ pub enum Place {
 }
 
 // A direction's place, and how many octets of its unfinished line are held.
-#[derive(Drop)]
+#[derive(Clone, Copy)]
 pub struct Direction {
     pub place: Place,
     pub held: usize,

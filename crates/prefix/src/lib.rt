@@ -23,7 +23,7 @@ const RESERVED: usize = 8;
 type Parts = [u8; IPV6 - 1];
 
 // What is answered. `prefix_number` gives the number of each case: 0, 9 and 10.
-#[derive(Drop)]
+#[derive(Clone, Copy)]
 pub enum PrefixAnswer {
     Done,
     BadLength,
@@ -31,14 +31,14 @@ pub enum PrefixAnswer {
 }
 
 // An IPv4 address put behind a prefix; zeros where that is refused.
-#[derive(Drop)]
+#[derive(Clone, Copy)]
 pub struct Embedded {
     pub answer: PrefixAnswer,
     pub ipv6: [u8; IPV6],
 }
 
 // The IPv4 address taken out of an IPv6 address; zeros where that is refused.
-#[derive(Drop)]
+#[derive(Clone, Copy)]
 pub struct Extracted {
     pub answer: PrefixAnswer,
     pub ipv4: [u8; IPV4],

@@ -20,7 +20,7 @@ const AUTH: u8 = 8;
 pub const LAST: u8 = AUTH;
 
 // A kind owed, or none.
-#[derive(Drop)]
+#[derive(Clone, Copy)]
 pub enum Owes {
     Nothing,
     One(Kind),
@@ -87,7 +87,7 @@ fn state_kind(epsv: bool, eprt: bool) -> Kind
 }
 
 // How far the own answers at the head of a queue reach, how many octets they have in all, and whether AUTH follows.
-#[derive(Drop)]
+#[derive(Clone, Copy)]
 struct AnswersDue {
     until: usize,
     length: usize,
@@ -95,7 +95,7 @@ struct AnswersDue {
 }
 
 // How the queue will settle: how many kinds leave it, how long their answers are, and whether AUTH is first then.
-#[derive(Drop)]
+#[derive(Clone, Copy)]
 pub struct Plan {
     pub leaving: usize,
     pub answers: usize,
@@ -103,7 +103,7 @@ pub struct Plan {
 }
 
 // What comes next: an own answer, AUTH, or neither.
-#[derive(Drop)]
+#[derive(Clone, Copy)]
 enum Next {
     Answer(OwnAnswer),
     Auth,

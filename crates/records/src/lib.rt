@@ -18,7 +18,7 @@ use telnet::cleared;
 pub mod layout;
 
 // What the session does next, apart from the octets held and the kinds owed.
-#[derive(Drop)]
+#[derive(Clone, Copy)]
 pub struct Control {
     pub switches: Switches,
     pub client: Direction,
@@ -32,14 +32,14 @@ pub struct Control {
 }
 
 // Octets taken from a direction and written for it, in 32 bits that wrap.
-#[derive(Drop)]
+#[derive(Clone, Copy)]
 pub struct Counts {
     pub taken: u32,
     pub written: u32,
 }
 
 // The record.
-#[derive(Drop)]
+#[derive(Clone, Copy)]
 pub struct Session {
     pub live: bool,
     pub fixed: Fixed,
@@ -52,7 +52,7 @@ pub struct Session {
 }
 
 // What refuses a call, if anything does.
-#[derive(Drop)]
+#[derive(Clone, Copy)]
 pub enum Refusal {
     By(Answer),
     Nothing,

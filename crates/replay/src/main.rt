@@ -8,7 +8,7 @@ use libc::{STDERR_FILENO, STDIN_FILENO, STDOUT_FILENO};
 use report::{Part, PartState};
 
 // How many octets are read, or that reading failed.
-#[derive(Drop)]
+#[derive(Clone, Copy)]
 enum InputRead {
     Some(usize),
     Failed,

@@ -165,7 +165,7 @@ fn first_digit(s: &[u8], from: usize) -> usize
 }
 
 // A number read at a position: its value, and where its digits end.
-#[derive(Drop)]
+#[derive(Clone, Copy)]
 enum NumberAt {
     Value(u8, usize),
     Unreadable,

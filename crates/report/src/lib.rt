@@ -23,7 +23,7 @@ use steps::Written;
 
 // Where a replay stands: the record, the number of the next entry and where its body begins, and how many entries are
 // left.
-#[derive(Drop)]
+#[derive(Clone, Copy)]
 pub struct Replay {
     pub session: Session,
     pub number: u16,
@@ -32,7 +32,7 @@ pub struct Replay {
 }
 
 // A part is written whole, has no room, or there is none: no entry of the file is left where the replay stands.
-#[derive(Drop)]
+#[derive(Clone, Copy)]
 pub enum PartState {
     Written,
     NoRoom,
@@ -40,7 +40,7 @@ pub enum PartState {
 }
 
 // What became of a part, how many octets were written, and where the replay stands then.
-#[derive(Drop)]
+#[derive(Clone, Copy)]
 pub struct Part {
     pub progress: PartState,
     pub written: usize,
@@ -48,7 +48,7 @@ pub struct Part {
 }
 
 // What an entry did: octets taken, the answer's number, how much it wrote into each buffer, and the record then.
-#[derive(Drop)]
+#[derive(Clone, Copy)]
 struct EntryRan {
     taken: u16,
     answer: u8,

@@ -18,7 +18,7 @@ pub const OWED: usize = 16;
 pub type Kinds = [u8; OWED];
 
 // What a call answers. `answer_number` gives the number of each case.
-#[derive(Drop)]
+#[derive(Clone, Copy)]
 pub enum Answer {
     Done,
     QueueFull,
@@ -30,7 +30,7 @@ pub enum Answer {
 }
 
 // Which translations are on.
-#[derive(Drop)]
+#[derive(Clone, Copy)]
 pub struct Switches {
     pub epsv: bool,
     pub eprt: bool,
@@ -45,7 +45,7 @@ pub const IPV4: usize = 4;
 pub const SETUP: usize = IPV6 + IPV4 + 1 + IPV4;
 
 // What a setup gives: the client's address, its mapped address, the flags, and the server's address.
-#[derive(Drop)]
+#[derive(Clone, Copy)]
 pub struct Setup {
     pub client: [u8; IPV6],
     pub mapped: [u8; IPV4],
@@ -55,7 +55,7 @@ pub struct Setup {
 
 // What a setup fixes for the whole session: the client's address, its mapped address, the server's address, whether
 // EPRT is supported, and whether a 227 that names another address than the server's is refused.
-#[derive(Drop)]
+#[derive(Clone, Copy)]
 pub struct Fixed {
     pub client: [u8; IPV6],
     pub mapped: [u8; IPV4],
@@ -65,7 +65,7 @@ pub struct Fixed {
 }
 
 // The gateway's own answers: 522, 504, and 216 with the state of the switches.
-#[derive(Drop)]
+#[derive(Clone, Copy)]
 pub enum OwnAnswer {
     ProtocolNotSupported,
     ParameterNotImplemented,
@@ -73,7 +73,7 @@ pub enum OwnAnswer {
 }
 
 // The kinds of replies owed.
-#[derive(Drop)]
+#[derive(Clone, Copy)]
 pub enum Kind {
     Plain,
     TranslatedEpsv,
@@ -82,7 +82,7 @@ pub enum Kind {
 }
 
 // The command words that the gateway knows.
-#[derive(Drop)]
+#[derive(Clone, Copy)]
 pub enum CommandWord {
     Epsv,
     Eprt,
@@ -92,7 +92,7 @@ pub enum CommandWord {
 }
 
 // What the argument of EPSV asks for: IPv6 or nothing in particular, another protocol, ALL, or something else.
-#[derive(Drop)]
+#[derive(Clone, Copy)]
 pub enum EpsvArgument {
     Passive,
     OtherProtocol,
@@ -101,14 +101,14 @@ pub enum EpsvArgument {
 }
 
 // The port of an EPRT argument that names the client's own address.
-#[derive(Drop)]
+#[derive(Clone, Copy)]
 pub enum EprtArgument {
     Port(u16),
     Other,
 }
 
 // The argument of ALGS: one of its three, or another.
-#[derive(Drop)]
+#[derive(Clone, Copy)]
 pub enum AlgsArgument {
     Status64,
     Enable64,
@@ -117,7 +117,7 @@ pub enum AlgsArgument {
 }
 
 // What a client line judged whole is to the gateway.
-#[derive(Drop)]
+#[derive(Clone, Copy)]
 pub enum Command {
     // It goes to the server as it came.
     Passes,
@@ -132,7 +132,7 @@ pub enum Command {
 }
 
 // What a server line is to the reply that it stands in.
-#[derive(Drop)]
+#[derive(Clone, Copy)]
 pub enum ReplyLine {
     // A reply opens, with this code.
     Opens(u32),
@@ -147,7 +147,7 @@ pub enum ReplyLine {
 }
 
 // What of a Telnet command has come from a direction and is not finished.
-#[derive(Drop)]
+#[derive(Clone, Copy)]
 pub enum Telnet {
     // Nothing.
     Clear,
@@ -165,14 +165,14 @@ pub enum Telnet {
 }
 
 // A direction's Telnet state, and how many octets of subnegotiations were removed from it, in 32 bits that wrap.
-#[derive(Drop)]
+#[derive(Clone, Copy)]
 pub struct Layer {
     pub telnet: Telnet,
     pub removed: u32,
 }
 
 // What an octet does in the Telnet layer.
-#[derive(Drop)]
+#[derive(Clone, Copy)]
 pub enum Does {
     // It makes this octet of a line.
     Data(u8),
@@ -188,14 +188,14 @@ pub enum Does {
 }
 
 // An octet in the Telnet layer: the state after it, and what it does.
-#[derive(Drop)]
+#[derive(Clone, Copy)]
 pub struct TelnetStep {
     pub telnet: Telnet,
     pub does: Does,
 }
 
 // What a 227 line names: the four octets of an address, and a port.
-#[derive(Drop)]
+#[derive(Clone, Copy)]
 pub enum PassiveReply {
     At(u8, u8, u8, u8, u16),
     Unreadable,

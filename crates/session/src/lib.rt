@@ -24,7 +24,7 @@ use steps::Written;
 use telnet::{put_unfinished, unfinished_length};
 
 // What arrive and end return.
-#[derive(Drop)]
+#[derive(Clone, Copy)]
 pub struct Called {
     pub answer: Answer,
     pub taken: usize,

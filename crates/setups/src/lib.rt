@@ -10,7 +10,7 @@ use records::{Control, Counts, Session};
 use rules::{Answer, Fixed, HELD, IPV4, IPV6, Layer, OWED, SETUP, Setup, Switches, Telnet};
 
 // What setup returns.
-#[derive(Drop)]
+#[derive(Clone, Copy)]
 pub struct Prepared {
     pub answer: Answer,
     pub session: Session,

@@ -22,14 +22,14 @@ mod octet;
 mod settling;
 
 // How many octets have been written into each buffer.
-#[derive(Drop)]
+#[derive(Clone, Copy)]
 pub struct Written {
     pub server: usize,
     pub client: usize,
 }
 
 // What an octet answers, 0, 1 or 2, or 4 from what can't be; and the control and the counts then.
-#[derive(Drop)]
+#[derive(Clone, Copy)]
 pub struct Next {
     pub answer: Answer,
     pub control: Control,
@@ -37,7 +37,7 @@ pub struct Next {
 }
 
 // Whether an octet's output fits; and the control and the counts after it, as they were where it does not fit.
-#[derive(Drop)]
+#[derive(Clone, Copy)]
 struct Fitted {
     fits: bool,
     control: Control,

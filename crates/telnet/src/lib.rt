@@ -87,7 +87,7 @@ fn after_iac(x: u8) -> TelnetStep
 }
 
 // An octet of a direction: its layer after it, and what it does.
-#[derive(Drop)]
+#[derive(Clone, Copy)]
 pub struct Layered {
     pub layer: Layer,
     pub does: Does,

@@ -14,7 +14,7 @@ use queue::Owes;
 use rules::{Command, Fixed, Kind, OwnAnswer, Switches};
 
 // What a client octet does on the client's side.
-#[derive(Drop)]
+#[derive(Clone, Copy)]
 pub struct ClientEffect {
     pub gives: Gives,
     pub direction: Direction,

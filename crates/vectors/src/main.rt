@@ -15,7 +15,7 @@ const CLIENT: [u8; IPV6] = [
 const MAPPED: [u8; IPV4] = [192, 0, 2, 31];
 
 // The two halves of an Adler-32, each below 65,521.
-#[derive(Drop)]
+#[derive(Clone, Copy)]
 struct Adler {
     a: u16,
     b: u16,

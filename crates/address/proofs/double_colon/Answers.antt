@@ -1,0 +1,40 @@
+use mathlib.Core.Logic.{⊎_elim}
+use Prim.Native.Nat.{◌-◌}
+use native.Mathlib.Omega.{arith}
+use Rattle.address.proofs.Halves.{behind-nil, halves-on, halves-here, halves-none}
+use Rattle.address.proofs.double_colon.Goals as goal
+
+pub loop-i-init : goal.loop-i-init
+loop-i-init c = (omega arith, behind-nil _)
+
+pub overflow_add-i : goal.overflow_add-i
+overflow_add-i c = omega arith
+
+pub bounds-text-i : goal.bounds-text-i
+bounds-text-i c = omega arith
+
+pub overflow_add-i-then-text-i-eq58 : goal.overflow_add-i-then-text-i-eq58
+overflow_add-i-then-text-i-eq58 c = omega arith
+
+pub bounds-text-i-then-text-i-eq58 : goal.bounds-text-i-then-text-i-eq58
+bounds-text-i-then-text-i-eq58 c = omega arith
+
+pub returns-then-text-i-eq58-2 : goal.returns-then-text-i-eq58-2
+returns-then-text-i-eq58-2 c =
+    let l = c.loop-i in
+    let in-text = c.loop-i-test.true in record { result = halves-here _ l.i in-text c.if-text-i-eq58.true c.if-text-i-eq58-2.true l.invariant.1; within = λ h. in-text }
+
+pub overflow_add-i-in-loop-i : goal.overflow_add-i-in-loop-i
+overflow_add-i-in-loop-i c = omega arith
+
+pub loop-i-smaller : goal.loop-i-smaller
+loop-i-smaller c = omega arith
+
+pub loop-i-preserved : goal.loop-i-preserved
+loop-i-preserved c =
+    let l = c.loop-i in
+    let on = halves-on _ l.i c.loop-i-test.true in
+    (omega arith, ⊎_elim (λ w. on (λ a b. w.2.left b) l.invariant.1) (λ w. on (λ a b. w.left a) l.invariant.1) c.if-text-i-eq58.branch)
+
+pub returns : goal.returns
+returns c = record { result = halves-none _ c.loop-i.i c.loop-i-test.false c.loop-i.invariant.1; within = λ h. absurd (omega arith) }

@@ -1,0 +1,13 @@
+-- The loop's invariant: the run from `from` ends where the run from `i` ends.
+use mathlib.Core.Path.{◌≡◌}
+use Prim.Native.Nat.{◌+◌, ◌-◌}
+use lib.ListN.{length, drop}
+use Rattle.rules.specs.Octets.{run}
+use Rattle.rules.specs.Lines.{is_ordinary}
+use Rattle.search.proofs.ordinary_end.Given as goal
+
+abbrev pub invariant-loop-i : goal.invariant-loop-i
+invariant-loop-i l = l.from + run is_ordinary (drop l.from l.octets) ≡ l.i + run is_ordinary (drop l.i l.octets)
+
+abbrev pub decreases-loop-i : goal.decreases-loop-i
+decreases-loop-i l = length l.octets - l.i
