@@ -47,7 +47,8 @@ module _ (t : List ℕ) (i : ℕ) where
   halves-on h out e =
       let a : i < length t = omega arith in
       let n : suc (i + 1) ≡ i + 2 = omega arith in
-      e ∙ rw (two h, and-not (eqb (get_or t i 0) 58) (eqb (get_or t (i + 1) 0) 58) (λ p q. out (eqb-true (get_or t i 0) 58 p) (eqb-true (get_or t (i + 1) 0) 58 q)), behind_more (take i t) (get_or t i 0), drop-cons t (i + 1) 0 h, n, add-one, take-suc t i 0 a)
+      let taken : take (i + 1) t ≡ take i t ++ get_or t i 0 ∷ [] = rw add-one (take-suc t i 0 a) in
+      e ∙ rw (two h, and-not (eqb (get_or t i 0) 58) (eqb (get_or t (i + 1) 0) 58) (λ p q. out (eqb-true (get_or t i 0) 58 p) (eqb-true (get_or t (i + 1) 0) 58 q)), behind_more (take i t) (get_or t i 0), drop-cons t (i + 1) 0 h, n, taken)
 
   pub halves-here : i + 1 < length t → get_or t i 0 ≡ 58 → get_or t (i + 1) 0 ≡ 58 → halves t ≡ behind (take i t) (halves (drop i t)) → halves t ≡ halves_at i t
   unfolding halves choose behind halves_at

@@ -3,6 +3,7 @@ use Prim.Native.Nat.{◌-◌}
 use native.Mathlib.Omega.{arith}
 use Rattle.address.proofs.Halves.{behind-nil, halves-on, halves-here, halves-none}
 use Rattle.address.proofs.double_colon.Goals as goal
+use Rattle.address.proofs.double_colon.Goals.{then-text-i-eq58+else-text-i-eq58-2, else-text-i-eq58}
 
 pub loop-i-init : goal.loop-i-init
 loop-i-init c = (omega arith, behind-nil _)
@@ -33,8 +34,13 @@ loop-i-smaller c = omega arith
 pub loop-i-preserved : goal.loop-i-preserved
 loop-i-preserved c =
     let l = c.loop-i in
-    let on = halves-on _ l.i c.loop-i-test.true in
-    (omega arith, ⊎_elim (λ w. on (λ a b. w.2.left b) l.invariant.1) (λ w. on (λ a b. w.left a) l.invariant.1) c.if-text-i-eq58.branch)
+    let on = halves-on c.args.text.now l.i c.loop-i-test.true in (
+      omega arith,
+      elim c.if-text-i-eq58.branch [
+        | then-text-i-eq58+else-text-i-eq58-2 w ↦ on (λ a b. w.if-text-i-eq58-2.false b) l.invariant.1
+        | else-text-i-eq58 w ↦ on (λ a b. w.if-text-i-eq58.false a) l.invariant.1
+      ],
+    )
 
 pub returns : goal.returns
 returns c = record { result = halves-none _ c.loop-i.i c.loop-i-test.false c.loop-i.invariant.1; within = λ h. absurd (omega arith) }

@@ -30,7 +30,7 @@ returns-then-m-n-gt14 c =
     ∙ ap ipv6_read
     (sym
     (filled-long args.before args.after args.head.now args.tail.now (not-false _ c.if-not-before.false) (not-false _ c.if-not-after.false)
-    (kept args.before args.head.now pre.1.0 pre.0.0) (kept args.after args.tail.now pre.1.1 pre.0.1) c.if-m-n-gt14.true))
+    (kept args.before args.head.now pre.lengths.0 pre.counts.0) (kept args.after args.tail.now pre.lengths.1 pre.counts.1) c.if-m-n-gt14.true))
 
 pub returns : goal.returns
 unfolding ipv6_read
@@ -41,4 +41,4 @@ returns c =
     ∙ ap ipv6_read
     (sym
     (filled-read args.before args.after args.head.now args.tail.now (not-false _ c.if-not-before.false) (not-false _ c.if-not-after.false)
-    (kept args.before args.head.now pre.1.0 pre.0.0) (kept args.after args.tail.now pre.1.1 pre.0.1) c.if-m-n-gt14.false))
+    (kept args.before args.head.now pre.lengths.0 pre.counts.0) (kept args.after args.tail.now pre.lengths.1 pre.counts.1) c.if-m-n-gt14.false))

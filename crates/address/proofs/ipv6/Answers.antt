@@ -23,11 +23,11 @@ returns-then-at-text c =
     let t = c.args.text.now in
     c.filled.ensures
     ∙ ap ipv6_read
-    (rw (c.half-before.ensures.gives, c.half-after.ensures.gives, filled-fits, rest_part t (found.result + 2)) (sym (ipv6-halves t found.result found.ensures.0 c.if-at-text.true)))
+    (rw (c.half-before.ensures.gives, c.half-after.ensures.gives, filled-fits, rest_part t (found.result + 2)) (sym (ipv6-halves t found.result found.ensures.result c.if-at-text.true)))
 
 pub returns : goal.returns
 returns c =
     let found = c.double_colon-at in
     c.eight_groups.ensures
     ∙ ap ipv6_read
-    (rw (c.groups-read.ensures.gives, eight_fits) (sym (ipv6-whole _ found.result found.ensures.0 c.if-at-text.false)))
+    (rw (c.groups-read.ensures.gives, eight_fits) (sym (ipv6-whole _ found.result found.ensures.result c.if-at-text.false)))

@@ -6,6 +6,7 @@ use lib.ListN.{drop_of_length-le}
 use Rattle.rules.specs.Octets.{parts}
 use Rattle.address.proofs.Parts.{one-part-more, same_parts}
 use Rattle.address.proofs.times.Goals as goal
+use Rattle.address.proofs.times.Goals.{then-s-i, else-s-i}
 
 pub loop-i-init : goal.loop-i-init
 loop-i-init c = (omega arith, omega arith, omega arith)
@@ -27,9 +28,10 @@ loop-i-preserved c =
     let l = c.loop-i in
     let a = c.args in
     let h = c.loop-i-test.true in
-    ⊎_elim (λ w. (omega arith, omega arith, omega (arith, one-part-more a.x a.s.now l.i h w.0.taken)))
-    (λ w. (omega arith, omega arith, omega (arith, same_parts a.x a.s.now l.i h w.0.left)))
-    c.if-s-i.branch
+    elim c.if-s-i.branch [
+      | then-s-i w ↦ (omega arith, omega arith, omega (arith, one-part-more a.x a.s.now l.i h w.if-s-i.true))
+      | else-s-i w ↦ (omega arith, omega arith, omega (arith, same_parts a.x a.s.now l.i h w.if-s-i.false))
+    ]
 
 pub returns : goal.returns
 unfolding parts

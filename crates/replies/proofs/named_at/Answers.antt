@@ -55,7 +55,7 @@ number_at-requires-2 c = c.loop-i.invariant.0
 pub returns-in_default-number_at : goal.returns-in_default-number_at
 returns-in_default-number_at c =
     let l = c.loop-i in
-    unread _ _ _ _ _ l.invariant.2 (sym c.enum_told-in_default-number_at-1.given.1 ∙ c.number_at-2.ensures)
+    unread _ _ _ _ _ l.invariant.2 (sym c.in_default-number_at.is ∙ c.number_at-2.ensures)
 
 pub overflow_mul-port : goal.overflow_mul-port
 overflow_mul-port c = omega (arith, c.wide.ensures.most)
@@ -67,7 +67,7 @@ pub returns-then-port-eq0 : goal.returns-then-port-eq0
 returns-then-port-eq0 c =
     let l = c.loop-i in
     no-port _ _ _ _ _ l.invariant.2 _ _ (omega arith)
-    (sym c.sixth-1.given.1 ∙ c.number_at-2.ensures)
+    (sym c.in-Value-number_at.is ∙ c.number_at-2.ensures)
     (omega (arith, c.wide.ensures.result, c.wide-2.ensures.result, c.if-port-eq0.true))
 
 pub returns : goal.returns
@@ -77,4 +77,4 @@ returns c =
     let low = c.wide-2.ensures.result in
     rw (high, low)
     (a-port _ _ _ _ _ l.invariant.2 _ _ (omega arith)
-    (sym c.sixth-1.given.1 ∙ c.number_at-2.ensures) (λ z. c.if-port-eq0.false (omega (arith, high, low, z))))
+    (sym c.in-Value-number_at.is ∙ c.number_at-2.ensures) (λ z. c.if-port-eq0.false (omega (arith, high, low, z))))
