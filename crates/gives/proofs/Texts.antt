@@ -14,7 +14,7 @@ pub text_of : (f : Fixed) (h : List ℕ) (x : ℕ) {g k : Gives} → g ≡ k →
 text_of f h x e = ap (gives_text f h x) (sym e)
 
 -- its length, as far as it is counted, and all of it where no more are held than a line holds
-abbrev Counted : Fixed → List ℕ → ℕ → Gives → ℕ → Type 0
+abbrev pub Counted : Fixed → List ℕ → ℕ → Gives → ℕ → Type 0
 Counted f h x g r = (r ≡ min (length (gives_text f h x g)) most_counted) × (length h ≤ most_held → r ≡ length (gives_text f h x g))
 
 pub counted : (f : Fixed) (h : List ℕ) (x : ℕ) {g k : Gives} {r : ℕ} → g ≡ k → Counted f h x k r → Counted f h x g r

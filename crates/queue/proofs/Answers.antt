@@ -5,9 +5,6 @@ use Prim.Native.Nat.{ℕ, suc, ◌+◌, ◌≤◌, ◌<◌}
 use native.Mathlib.Omega.{arith}
 use lib.ListN.{length, take, drop, get_or, length-append, length-map, length-take, drop_of_length-le, get_or-map}
 use lib.Seq.{drop-cons, drop-drop, get_or-take}
-use types.Run.{OneOf, miss}
-use denote.Enum.Declared.{tag_of}
-use Rattle.queue.specs.contracts.Next.{the_type}
 use Rattle.rules.specs.Replies.{head_answers, answer_line, auth_at_head}
 use Rattle.rules.specs.declared.Kind.{Kind}
 use Rattle.rules.specs.declared.OwnAnswer.{OwnAnswer}
@@ -74,12 +71,12 @@ unfolding answers_at_head head_answers
 none-at-end ks e = record { count = ap answers_at_head e; text = ap head_answers e }
 
 -- what comes first is AUTH, or something else that is no own answer
-pub stops : (ks : List Kind) {n : Next} → n ≡ next_first ks → OneOf (1 ∷ 2 ∷ []) (tag_of the_type n) → NoAnswer ks
+pub stops : (ks : List Kind) {n : Next} → n ≡ next_first ks → ((a : OwnAnswer) → n ≡ Next.Answer a → ⊥) → NoAnswer ks
 unfolding next_first answers_at_head head_answers
 stops [] e f = record { count = refl; text = refl }
 stops (Kind.Plain ∷ ks) e f = record { count = refl; text = refl }
 stops (Kind.TranslatedEpsv ∷ ks) e f = record { count = refl; text = refl }
-stops (Kind.Own a ∷ ks) e f = absurd (miss (1 ∷ 2 ∷ []) 0 tt (subst (λ (m : Next). OneOf (1 ∷ 2 ∷ []) (tag_of the_type m)) e f))
+stops (Kind.Own a ∷ ks) e f = absurd (f a e)
 stops (Kind.Auth ∷ ks) e f = record { count = refl; text = refl }
 
 pub auth-next : (ks : List Kind) {n : Next} → n ≡ next_first ks → next_is_auth n ≡ auth_at_head ks

@@ -6,7 +6,7 @@ use Rattle.gives.proofs.line_length.Goals as goal
 
 pub overflow_add-n : goal.overflow_add-n
 overflow_add-n c =
-    omega (arith, c.passed_length-n.ensures, passed-most c.args.held.now, start.well-formed.0.1)
+    omega (arith, c.passed_length-n.ensures, passed-most c.args.held.now, c.well_formed.0.1)
 
 pub returns-then-n-lt-MOST_COUNTED : goal.returns-then-n-lt-MOST_COUNTED
 returns-then-n-lt-MOST_COUNTED c =
@@ -15,8 +15,8 @@ returns-then-n-lt-MOST_COUNTED c =
 
 pub returns-else-n-lt-MOST_COUNTED : goal.returns-else-n-lt-MOST_COUNTED
 returns-else-n-lt-MOST_COUNTED c =
-    omega (arith, c.passed_length-n.ensures, line-iac c.args.held.now c.args.x c.if-x-eq-IAC.true, passed-most c.args.held.now, start.well-formed.0.1)
+    omega (arith, c.passed_length-n.ensures, line-iac c.args.held.now c.args.x c.if-x-eq-IAC.true, passed-most c.args.held.now, c.well_formed.0.1)
 
 pub returns-else-x-eq-IAC : goal.returns-else-x-eq-IAC
 returns-else-x-eq-IAC c =
-    omega (arith, c.passed_length-n.ensures, line_other c.args.held.now c.args.x c.if-x-eq-IAC.false, passed-most c.args.held.now, start.well-formed.0.1)
+    omega (arith, c.passed_length-n.ensures, line_other c.args.held.now c.args.x c.if-x-eq-IAC.false, passed-most c.args.held.now, c.well_formed.0.1)

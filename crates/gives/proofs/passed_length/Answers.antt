@@ -14,7 +14,7 @@ bounds-held-i c = omega arith
 pub overflow_add-n : goal.overflow_add-n
 overflow_add-n c =
     let most = counted-most c.args.held.now c.loop-i.i c.loop-i.invariant.1 in
-    omega (arith, start.well-formed.0.1, c.octet_length-n.ensures.most)
+    omega (arith, c.well_formed.0.1, c.octet_length-n.ensures.most)
 
 pub overflow_add-i : goal.overflow_add-i
 overflow_add-i c = omega arith

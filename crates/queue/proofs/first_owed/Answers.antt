@@ -2,15 +2,13 @@
 use mathlib.Core.Path.{◌≡◌, ap}
 use mathlib.Core.List.{List}
 use Prim.Native.Nat.{ℕ}
-use borrow.Author.Rules.{rules}
 use borrow.Author.Tests.{eq-eqb, ne_eqb}
 use lib.ListN.{get_or}
 use Rattle.rules.specs.Octets.{choose}
 use Rattle.rules.specs.declared.Kind.{Kind}
 use Rattle.queue.specs.declared.Owes.{Owes}
 use Rattle.queue.specs.Kinds.{kind_of, head_of}
-use Rattle.queue.proofs.first_owed.Statement.{statement}
-use Rattle.queue.proofs.first_owed.Tie as tie
+use Rattle.queue.proofs.first_owed.Goals as goal
 
 none : (kinds : List ℕ) (owed : ℕ) → owed ≡ 0 → Owes.Nothing ≡ head_of kinds owed
 unfolding head_of choose
@@ -20,11 +18,8 @@ one : (kinds : List ℕ) (owed : ℕ) {k : Kind} → (owed ≡ 0 → ⊥) → k 
 unfolding head_of choose
 one kinds owed h e = rw (ne_eqb owed 0 h) (ap Owes.One e)
 
-returns : tie.Need-returns
-returns c = none c.before.args.t1 c.before.args.owed c.if1.true
+pub returns-then-owed-eq0 : goal.returns-then-owed-eq0
+returns-then-owed-eq0 c = none c.args.kinds c.args.owed c.if-owed-eq0.true
 
-returns-2 : tie.Need-returns-2
-returns-2 c = one c.before.before.args.t1 c.before.before.args.owed c.before.if1.false c.kind-of.ensures
-
-pub first-owed-spec : {M : Type 1} → statement M
-first-owed-spec = tie.close (tie.spec returns (λ c. search rules) (λ c κs. search rules) returns-2)
+pub returns : goal.returns
+returns c = one c.args.kinds c.args.owed c.if-owed-eq0.false c.kind_of.ensures

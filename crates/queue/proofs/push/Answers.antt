@@ -10,8 +10,7 @@ use Rattle.rules.specs.declared.Kind.{Kind}
 use Rattle.rules.specs.Answers.{most_owed}
 use Rattle.queue.specs.declared.Owes.{Owes}
 use Rattle.queue.specs.Kinds.{code_of, pushed}
-use Rattle.queue.proofs.push.Statement.{statement}
-use Rattle.queue.proofs.push.Tie as tie
+use Rattle.queue.proofs.push.Goals as goal
 
 behind : (kinds : List ℕ) (owed : ℕ) {o : Owes} {k : Kind} → length kinds ≤ owed → o ≡ Owes.One k → kinds ≡ pushed kinds owed o
 unfolding pushed
@@ -21,29 +20,17 @@ within : (kinds : List ℕ) (owed : ℕ) {o : Owes} {k : Kind} {n : ℕ} → n �
 unfolding pushed
 within kinds owed c e = ap (λ (n : ℕ). set kinds owed n) c ∙ ap (pushed kinds owed) (sym e)
 
-returns : tie.Need-returns
+pub returns-in_default : goal.returns-in_default
 unfolding pushed
-returns c = search rules
+returns-in_default c = search rules
 
-returns-2 : tie.Need-returns-2
-returns-2 c =
-    let a = c.before.before.before.before.args in
+pub returns-then-owed-ge-OWED : goal.returns-then-owed-ge-OWED
+returns-then-owed-ge-OWED c =
+    let a = c.args in
     let long : length a.kinds ≡ most_owed = search rules in
-    behind a.kinds a.owed (omega arith) c.before.before.owes.given.1
+    behind a.kinds a.owed (omega arith) c.in-One.is
 
-returns-3 : tie.Need-returns-3
-returns-3 c =
-    let a = c.before.before.before.before.before.args in
-    within a.kinds a.owed c.code_of_lem.ensures c.before.before.before.owes.given.1
-
-pub push_spec : {M : Type 1} → statement M
-push_spec =
-    tie.close
-    (tie.spec
-    (λ c. search rules)
-    (λ c. search rules)
-    returns
-    returns-2
-    (λ c κs. search rules)
-    (λ c. search rules)
-    returns-3)
+pub returns : goal.returns
+returns c =
+    let a = c.args in
+    within a.kinds a.owed c.code_of.ensures c.in-One.is

@@ -1,0 +1,17 @@
+-- `queue::due` meets its contract. The invariant: what is counted, and the answers from number `until` on, make the whole.
+use mathlib.Core.Path.{◌≡◌}
+use Prim.Native.Nat.{◌+◌, ◌*◌, ◌≤◌, ◌-◌}
+use lib.ListN.{length, drop}
+use Rattle.rules.specs.Replies.{head_answers}
+use Rattle.rules.specs.Answers.{most_owed, most_answers, longest_answer}
+use Rattle.queue.specs.Kinds.{queue_of, answers_at_head}
+use Rattle.queue.proofs.due.Given as goal
+
+abbrev pub invariant-loop-until : goal.invariant-loop-until
+invariant-loop-until l =
+    (l.from + answers_at_head (drop l.from (queue_of l.kinds l.owed)) ≡ l.until + answers_at_head (drop l.until (queue_of l.kinds l.owed)))
+    × (length (head_answers (drop l.from (queue_of l.kinds l.owed))) ≡ l.octets + length (head_answers (drop l.until (queue_of l.kinds l.owed))))
+    × (l.octets + longest_answer * (most_owed - l.until) ≤ most_answers)
+
+abbrev pub decreases-loop-until : goal.decreases-loop-until
+decreases-loop-until l = most_owed - l.until
