@@ -1,0 +1,8 @@
+-- `records::layer_of` meets its contract: by the side.
+use Rattle.records.proofs.layer_of.Goals as goal
+
+pub returns-then-from_client : goal.returns-then-from_client
+returns-then-from_client c = rw c.if-from_client.true
+
+pub returns : goal.returns
+returns c = rw c.if-from_client.false

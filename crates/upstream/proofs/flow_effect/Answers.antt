@@ -1,0 +1,11 @@
+-- By the test on LF.
+use mathlib.Core.Path.{refl}
+use borrow.Author.Tests.{eq-eqb, ne_eqb}
+use Rattle.octets.proofs.Choices.{chosen, passed}
+use Rattle.upstream.proofs.flow_effect.Goals as goal
+
+pub returns-then-x-eq-LF : goal.returns-then-x-eq-LF
+returns-then-x-eq-LF c = chosen _ refl (eq-eqb _ _ c.if-x-eq-LF.true) c.owed.ensures
+
+pub returns : goal.returns
+returns c = passed _ refl (ne_eqb _ _ c.if-x-eq-LF.false) c.unowed.ensures
