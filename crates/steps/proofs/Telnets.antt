@@ -191,15 +191,15 @@ module _ (d : Side) (s : State) (x : ℕ) where
   data-step f e known = ap (λ (q : Does). step_by f d (layered d s (layer_read d s x).layer) q (data_of q)) (sym known ∙ e)
 
   -- one that makes none
-  pub other_step : (f : Fixed) {does : Does} → does ≡ (layer_read d s x).does → OneOf (1 ∷ 2 ∷ 3 ∷ 4 ∷ 5 ∷ []) (tag_of the_type does)
+  pub other_step : (f : Fixed) {does : Does} → does ≡ (layer_read d s x).does → ((y : ℕ) → does ≡ Does.Data y → ⊥)
       → telnet_step (is_client d) (layered d s (layer_read d s x).layer) does ≡ octet_step f d s x
   unfolding octet_step step_by
   other_step f {does} e k =
       other does k ∙ ap (λ (q : Does). step_by f d (layered d s (layer_read d s x).layer) q (data_of q)) e
     where
-      other : (q : Does) → OneOf (1 ∷ 2 ∷ 3 ∷ 4 ∷ 5 ∷ []) (tag_of the_type q)
+      other : (q : Does) → ((y : ℕ) → q ≡ Does.Data y → ⊥)
           → telnet_step (is_client d) (layered d s (layer_read d s x).layer) q ≡ step_by f d (layered d s (layer_read d s x).layer) q (data_of q)
-      other (Does.Data y) k = absurd (miss (1 ∷ 2 ∷ 3 ∷ 4 ∷ 5 ∷ []) 0 tt k)
+      other (Does.Data y) k = absurd (k y refl)
       other Does.Nothing k = refl
       other (Does.AnswersDont y) k = refl
       other (Does.AnswersWont y) k = refl
