@@ -1,0 +1,200 @@
+use mathlib.Core.Path.{◌≡◌, refl, sym, subst, ◌∙◌}
+use mathlib.Core.Bool.{Bool, true}
+use mathlib.Core.List.{List}
+use Prim.Native.Nat.{ℕ, ◌+◌, ◌-◌}
+use native.Mathlib.Omega.{arith}
+use lib.ListN.{length, get_or}
+use Rattle.rules.specs.Answers.{Side, answer_number}
+use Rattle.records.specs.Layout.{lent_size}
+use Rattle.records.specs.declared.Control.{Control}
+use Rattle.records.specs.Sound.{side_if, Counted}
+use Rattle.rules.specs.declared.Fixed.{Fixed}
+use Rattle.steps.specs.declared.Written.{Written}
+use Rattle.steps.specs.Takes.{Core, addresses_lent, fixed_lent, state_lent, core_lent, is_within, took_next}
+use Rattle.steps.specs.Core.{Bounded}
+use Rattle.steps.proofs.Lent.{fixed_same}
+use Rattle.steps.proofs.Nexts.{Answered, within-bounded}
+use Rattle.arrivals.proofs.Going.{Going, Stopped, going_start, going_next, stopped-done, stopped-next}
+use Rattle.arrivals.proofs.Parts.{going-run}
+use Rattle.arrivals.proofs.take_each.Goals as goal
+use Rattle.arrivals.proofs.take_each.Goals.{After-written-then-i-octets-1}
+
+-- the counts that a record's arrays can hold
+held-counts : {c : Control} {w : Written} {sb cb : List ℕ} → Bounded c w sb cb → Counted c
+held-counts bounded = record { owed = bounded.owed; command = bounded.command; reply = bounded.reply }
+
+-- behind a run, whose control is built anew, and an octet: what the setup fixed is as it was at first
+module _ (c : After-written-then-i-octets-1) where
+  abbrev fixed : Fixed
+  fixed = fixed_lent c.args.supported c.args.strict c.args.lent.now
+
+  abbrev side : Side
+  side = side_if c.args.from_client
+
+  abbrev reached : ℕ
+  reached = c.next_run-run.result.taken
+
+  abbrev between : Control → Core
+  between k = let r = c.next_run-run in core_lent k r.new.lent r.new.to_server r.new.to_client r.result.written
+
+  went : Going fixed side c.args.octets.now (state_lent c.args.start c.args.lent.now) c.args.to_server.now
+      c.args.to_client.now (between c.rebuilt-control.result) reached
+  went =
+      let a = c.args in
+      let l = c.loop-i in
+      let r = c.next_run-run in
+      subst
+      (λ (k : Control). Going fixed side a.octets.now (state_lent a.start a.lent.now) a.to_server.now a.to_client.now (between k) reached)
+      (sym c.rebuilt-control.ensures)
+      (going-run fixed side a.octets.now (state_lent a.start a.lent.now) a.to_server.now a.to_client.now _
+      (between r.result.control) l.i reached l.invariant.0 (r.ensures.ran fixed))
+
+  size : length c.next_run-run.new.lent ≡ lent_size
+  size = c.next_run-run.auto.lent ∙ c.loop-i.invariant.2
+
+  addresses : addresses_lent c.next_run-run.new.lent ≡ addresses_lent c.args.lent.now
+  addresses = c.next_run-run.ensures.fixed ∙ c.loop-i.invariant.3
+
+  abbrev behind : Control → Core
+  behind k = let o = c.next_octet-o in core_lent k o.new.lent o.new.to_server o.new.to_client o.result.written
+
+  abbrev before-octet : Core
+  before-octet = between c.rebuilt-control.result
+
+  abbrev within : Bool
+  within =
+      let k = before-octet in
+      is_within k.state.control (length c.next_run-run.new.lent) (length k.server_buffer) (length k.client_buffer) k.written
+
+  can : within ≡ true
+  can =
+      let k = before-octet in
+      within-bounded k.state.control _ k.server_buffer k.client_buffer k.written size went.bounded
+
+  next : Answered c.next_octet-o.result.answer (behind c.rebuilt-control-then-i-octets.result)
+      (took_next within fixed side (get_or c.args.octets.now reached 0) before-octet) before-octet
+  next =
+      let o = c.next_octet-o in
+      let a = c.args in
+      let x = get_or a.octets.now reached 0 in
+      subst (λ (k : Control). Answered o.result.answer (behind k) (took_next within fixed side x before-octet) before-octet) (sym c.rebuilt-control-then-i-octets.ensures)
+      (subst (λ (f : Fixed). Answered o.result.answer (behind o.result.control) (took_next within f side x before-octet) before-octet)
+      (fixed_same c.next_run-run.new.lent size a.lent.now c.requires.lengths addresses a.supported a.strict) o.ensures.stepped)
+
+  counted : Counted c.rebuilt-control-then-i-octets.result
+  counted =
+      let o = c.next_octet-o in
+      subst Counted (sym c.rebuilt-control-then-i-octets.ensures) (o.ensures.counts (held-counts went.bounded))
+
+  kept : addresses_lent c.next_octet-o.new.lent ≡ addresses_lent c.args.lent.now
+  kept = c.next_octet-o.ensures.fixed ∙ addresses
+
+  stopped : (answer_number c.next_octet-o.result.answer ≡ 0 → ⊥)
+      → Stopped fixed side c.args.octets.now (state_lent c.args.start c.args.lent.now)
+      c.args.to_server.now c.args.to_client.now c.next_octet-o.result.answer reached (behind c.rebuilt-control-then-i-octets.result)
+  stopped =
+      let a = c.args in
+      stopped-next fixed side a.octets.now (state_lent a.start a.lent.now) a.to_server.now a.to_client.now
+      before-octet reached went c.if-i-octets.true can _ _ next
+
+  goes : answer_number c.next_octet-o.result.answer ≡ 0
+      → Going fixed side c.args.octets.now (state_lent c.args.start c.args.lent.now)
+      c.args.to_server.now c.args.to_client.now (behind c.rebuilt-control-then-i-octets.result) (reached + 1)
+  goes is =
+      let a = c.args in
+      going_next fixed side a.octets.now (state_lent a.start a.lent.now) a.to_server.now a.to_client.now
+      before-octet reached went c.if-i-octets.true can _ _ next is counted
+
+  -- every buffer is as long as it was
+  abbrev Same : Type 0
+  Same =
+      let o = c.next_octet-o in
+      let a = c.args in
+      (length o.new.lent ≡ length a.lent.now)
+      × ((length o.new.to_server ≡ length a.to_server.now) × (length o.new.to_client ≡ length a.to_client.now))
+
+  same : Same
+  same =
+      let o = c.next_octet-o.auto in
+      let v = went in
+      (o.lent ∙ (size ∙ sym c.requires.lengths), (o.to_server ∙ v.server-size, o.to_client ∙ v.client-size))
+
+pub loop-i-init : goal.loop-i-init
+loop-i-init c =
+    let a = c.args in
+    let p = c.requires in (
+      going_start (fixed_lent a.supported a.strict a.lent.now) (side_if a.from_client) a.octets.now (state_lent a.start a.lent.now)
+          a.to_server.now a.to_client.now
+          (record { owed = p.counts.owed; command = p.counts.command; reply = p.counts.reply; server = omega arith; client = omega arith }),
+      omega arith,
+      p.lengths,
+      refl,
+    )
+
+pub next_run-run-requires : goal.next_run-run-requires
+next_run-run-requires c = let v = c.loop-i.invariant in record { bounds = v.0.bounded; within = (v.1, v.2) }
+
+pub returns-then-number_of-ne0 : goal.returns-then-number_of-ne0
+returns-then-number_of-ne0 c = record { given = stopped (goal.at.returns-then-number_of-ne0 c).After-written-then-i-octets-1 (λ e. c.if-number_of-ne0.true (c.number_of.ensures ∙ e)); fixed = kept (goal.at.returns-then-number_of-ne0 c).After-written-then-i-octets-1; counts = counted (goal.at.returns-then-number_of-ne0 c).After-written-then-i-octets-1 }
+
+pub loop-i-smaller-then-i-octets : goal.loop-i-smaller-then-i-octets
+loop-i-smaller-then-i-octets c =
+    let more = c.loop-i-test.true in
+    let ran = (c.next_run-run.ensures.ran (fixed (goal.at.loop-i-smaller-then-i-octets c).After-written-then-i-octets-1)).forward in
+    omega arith
+
+pub loop-i-preserved-then-i-octets : goal.loop-i-preserved-then-i-octets
+loop-i-preserved-then-i-octets c =
+    let more = c.if-i-octets.true in
+    (goes (goal.at.loop-i-preserved-then-i-octets c).After-written-then-i-octets-1 (sym c.number_of.ensures ∙ c.if-number_of-ne0.false), omega arith, (same (goal.at.loop-i-preserved-then-i-octets c).After-written-then-i-octets-1).0 ∙ c.requires.lengths, kept (goal.at.loop-i-preserved-then-i-octets c).After-written-then-i-octets-1)
+
+pub loop-i-smaller : goal.loop-i-smaller
+loop-i-smaller c =
+    let more = c.loop-i-test.true in
+    omega arith
+
+pub loop-i-preserved : goal.loop-i-preserved
+loop-i-preserved c =
+    let a = c.args in
+    let l = c.loop-i in
+    let r = c.next_run-run in
+    let fixed = fixed_lent a.supported a.strict a.lent.now in
+    let side = side_if a.from_client in
+    let between = λ (k : Control). core_lent k r.new.lent r.new.to_server r.new.to_client r.result.written in (
+      subst
+          (λ (k : Control). Going fixed side a.octets.now (state_lent a.start a.lent.now) a.to_server.now a.to_client.now (between k) r.result.taken)
+          (sym c.rebuilt-control.ensures)
+          (going-run fixed side a.octets.now (state_lent a.start a.lent.now) a.to_server.now a.to_client.now _
+          (between r.result.control) l.i r.result.taken l.invariant.0 (r.ensures.ran fixed)),
+      (r.ensures.ran fixed).inside,
+      r.auto.lent ∙ l.invariant.2,
+      r.ensures.fixed ∙ l.invariant.3,
+    )
+
+pub returns : goal.returns
+returns c =
+    let a = c.args in
+    let l = c.loop-i in record {
+      given = stopped-done (fixed_lent a.supported a.strict a.lent.now) (side_if a.from_client) a.octets.now (state_lent a.start a.lent.now)
+          a.to_server.now a.to_client.now _ l.i l.invariant.0 c.loop-i-test.false;
+      fixed = l.invariant.3;
+      counts = held-counts l.invariant.0.bounded;
+    }
+
+pub shape_of-lent-then-number_of-ne0 : goal.shape_of-lent-then-number_of-ne0
+shape_of-lent-then-number_of-ne0 c = (same (goal.at.shape_of-lent-then-number_of-ne0 c).After-written-then-i-octets-1).0
+
+pub shape_of-to_server-then-number_of-ne0 : goal.shape_of-to_server-then-number_of-ne0
+shape_of-to_server-then-number_of-ne0 c = (same (goal.at.shape_of-to_server-then-number_of-ne0 c).After-written-then-i-octets-1).1.0
+
+pub shape_of-to_client-then-number_of-ne0 : goal.shape_of-to_client-then-number_of-ne0
+shape_of-to_client-then-number_of-ne0 c = (same (goal.at.shape_of-to_client-then-number_of-ne0 c).After-written-then-i-octets-1).1.1
+
+pub shape_of-lent : goal.shape_of-lent
+shape_of-lent c = c.loop-i.invariant.2 ∙ sym c.requires.lengths
+
+pub shape_of-to_server : goal.shape_of-to_server
+shape_of-to_server c = c.loop-i.invariant.0.server-size
+
+pub shape_of-to_client : goal.shape_of-to_client
+shape_of-to_client c = c.loop-i.invariant.0.client-size
