@@ -107,6 +107,11 @@ unfolding refusal_by
 by-nothing none e = refl
 by-nothing (some a) e = cc
 
+-- what is no answer refuses nothing
+pub otherwise : (r : Refusal) → ((a : Answer) → r ≡ Refusal.By a → ⊥) → r ≡ Refusal.Nothing
+otherwise (Refusal.By a) h = absurd (h a refl)
+otherwise Refusal.Nothing h = refl
+
 pub by_answer : (o : Option Answer) (a : Answer) → refusal_by o ≡ Refusal.By a → o ≡ some a
 unfolding refusal_by
 by_answer none a e = cc

@@ -1,19 +1,12 @@
 -- `session::end` meets its contract: a refusal, or the end of one side, with the other buffer as it was.
-use mathlib.Core.Path.{◌≡◌, refl, sym, ◌∙◌}
+use mathlib.Core.Path.{◌≡◌, sym, ◌∙◌}
 use mathlib.Core.Option.{none}
-use Rattle.rules.specs.declared.Answer.{Answer}
-use Rattle.records.specs.declared.Refusal.{Refusal}
 use Rattle.records.specs.Sound.{refusal_of}
 use Rattle.session.specs.Calls.{end_called}
-use Rattle.records.proofs.Refusals.{by-nothing}
+use Rattle.records.proofs.Refusals.{by-nothing, otherwise}
 use Rattle.session.proofs.Outcomes.{client-ended, server-ended, turned-away}
 use Rattle.session.proofs.end.Goals as goal
 use Rattle.session.proofs.end.Goals.{In_default}
-
--- what is no answer refuses nothing
-otherwise : (r : Refusal) → ((x : Answer) → r ≡ Refusal.By x → ⊥) → r ≡ Refusal.Nothing
-otherwise (Refusal.By x) h = absurd (h x refl)
-otherwise Refusal.Nothing h = refl
 
 -- nothing refuses the end
 module _ (c : In_default) where
