@@ -1,12 +1,10 @@
 -- What is told of a call: its answer, and the address unless it is refused.
 use mathlib.Core.Path.{◌≡◌, refl, sym}
 use mathlib.Core.Bool.{Bool, true, false}
-use mathlib.Core.List.{List, [], ◌∷◌}
+use mathlib.Core.List.{List}
 use mathlib.Core.Logic.{◌≢◌}
 use Prim.Native.Nat.{ℕ, ◌≤◌}
 use lib.ListN.{replicate}
-use types.Run.{OneOf, miss}
-use denote.Enum.Declared.{tag_of}
 use Rattle.rules.specs.Octets.{choose}
 use Rattle.rules.specs.Setup.{ipv6_width, ipv4_width}
 use Rattle.prefix.specs.declared.PrefixAnswer.{PrefixAnswer}
@@ -23,7 +21,6 @@ use Rattle.prefix.specs.Prefix.{
   embedding,
   extracting,
 }
-use Rattle.prefix.specs.contracts.PrefixAnswer.{the_type}
 use Rattle.prefix.proofs.Placed.{length_most}
 
 both-tests : (t bits : Bool) → choose t (choose bits ReservedBits Done) BadLength ≡ Done → (t ≡ true) × (bits ≡ false)
@@ -49,19 +46,16 @@ pub given : (width : ℕ) {answer : PrefixAnswer} {address r : List ℕ} → ans
 unfolding address_given
 given width e same = rw e same
 
--- and of one that is not, which the code knows by its tag
+-- and of one that is not
 pub zeros_of : (width : ℕ) (answer : PrefixAnswer) (address : List ℕ) → answer ≢ Done → address_given width answer address ≡ replicate width 0
 unfolding address_given
 zeros_of width Done address refused = absurd (refused refl)
 zeros_of width BadLength address refused = refl
 zeros_of width ReservedBits address refused = refl
 
-not_done : (answer : PrefixAnswer) → OneOf (1 ∷ 2 ∷ []) (tag_of the_type answer) → answer ≢ Done
-not_done answer tag e = miss (1 ∷ 2 ∷ []) 0 tt (rw e at tag)
-
-pub zeros-given : (width : ℕ) (answer : PrefixAnswer) (address : List ℕ) → OneOf (1 ∷ 2 ∷ []) (tag_of the_type answer)
+pub zeros-given : (width : ℕ) (answer : PrefixAnswer) (address : List ℕ) → answer ≢ Done
     → replicate width 0 ≡ address_given width answer address
-zeros-given width answer address tag = sym (zeros_of width answer address (not_done answer tag))
+zeros-given width answer address refused = sym (zeros_of width answer address refused)
 
 pub embedding-told : (prefix : List ℕ) (n : ℕ) (ipv4 : List ℕ) {bits : Bool} {answer : PrefixAnswer} {ipv6 : List ℕ}
     → bits ≡ has_reserved_bits (prefix_of n prefix) → answer ≡ prefix_answer n bits → ipv6 ≡ address_given ipv6_width answer (embedded prefix n ipv4)

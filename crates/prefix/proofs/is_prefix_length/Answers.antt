@@ -5,11 +5,11 @@ use mathlib.Core.List.{List, [], ◌∷◌}
 use mathlib.Core.Logic.{inl, inr}
 use Prim.Native.Nat.{ℕ}
 use lib.Dec.{eqb}
+use native.Mathlib.Omega.{arith}
 use types.Run.{OneOf}
 use borrow.Author.Tests.{eq-eqb, ne_eqb}
 use Rattle.prefix.specs.Prefix.{prefix_lengths, is_one_of}
-use Rattle.prefix.proofs.is_prefix_length.Statement.{statement}
-use Rattle.prefix.proofs.is_prefix_length.Tie as tie
+use Rattle.prefix.proofs.is_prefix_length.Goals as goal
 
 in-arm : (ms : List ℕ) (n : ℕ) → OneOf ms n → is_one_of ms n ≡ true
 unfolding is_one_of
@@ -24,11 +24,8 @@ in_rest [] n h = refl
 in_rest (m ∷ []) n h = rw (ne_eqb n m h)
 in_rest (m ∷ m' ∷ ms) n h = rw (ne_eqb n m (λ e. h (inl e)), in_rest (m' ∷ ms) n (λ e. h (inr e)))
 
-returns : tie.Need-returns
-returns c = sym (in-arm prefix_lengths c.before.args.length c.match.keys1)
+pub returns-in-32 : goal.returns-in-32
+returns-in-32 c = sym (in-arm prefix_lengths c.args.length c.in-32.is)
 
-returns-2 : tie.Need-returns-2
-returns-2 c = sym (in_rest prefix_lengths c.before.args.length c.match.rest.1)
-
-pub is-prefix-length-spec : {M : Type 1} → statement M
-is-prefix-length-spec = tie.close (tie.spec returns returns-2)
+pub returns-in_default : goal.returns-in_default
+returns-in_default c = sym (in_rest prefix_lengths c.args.length (λ h. grind arith))
