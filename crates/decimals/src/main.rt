@@ -3,23 +3,19 @@
 // program.
 #![tactic(auto)]
 
-use libc::STDOUT_FILENO;
+use std::io;
 
 const PORTS: u32 = 65536;
 
 // Five digits, and an octet on either side that has to stay.
 const ROOM: usize = 7;
 
-fn main() {
+fn main(rt: HostRuntime) -> io::Result<()> {
     let ports = written_alike();
     if ports < PORTS {
-        io::write_all(STDOUT_FILENO, b"written otherwise: port ");
-        io::print_decimal(STDOUT_FILENO, ports as u64);
-        io::write_all(STDOUT_FILENO, b"\n");
-        return;
+        return println!(rt; "written otherwise: port {ports}");
     }
-    io::print_decimal(STDOUT_FILENO, ports as u64);
-    io::write_all(STDOUT_FILENO, b" ports written alike\n");
+    println!(rt; "{ports} ports written alike")
 }
 
 // How many ports from 0 on are written alike.
