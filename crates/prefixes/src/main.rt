@@ -8,14 +8,13 @@ ghost use Rattle.std.specs.Prelude.{◌≤◌, length};
 use octets::Number;
 use rules::IPV6;
 use std::io;
-use std::io::{BufWriter, Read, Write};
+use std::io::{BufWriter, Write};
 
 // How many octets of its input it reads at most.
 const MOST: u64 = 65536;
 
 fn main(rt: HostRuntime) -> io::Result<()> {
-    let mut text = Vec::new(rt.alloc());
-    rt.reader().take(MOST).read_to_end(&mut text)?;
+    let text = streams::read_most(rt.alloc(), rt.reader(), MOST)?;
     let mut out = BufWriter::new(rt.alloc(), io::writer(&rt))?;
     print_lines(&mut out, text.as_slice())?;
     out.flush()
