@@ -3,9 +3,13 @@
 // others read.
 #![tactic(auto)]
 
-use libc::{STDIN_FILENO, STDOUT_FILENO};
 use octets::Number;
 use rules::{Command, Does, Fixed, IPV4, IPV6, PassiveReply, ReplyLine, Switches, Telnet};
+use std::io;
+use std::io::{BufWriter, Write};
+
+// How many octets of its input it reads at most.
+const MOST: u64 = 65536;
 
 // 2001:db8:2::31
 const CLIENT: [u8; IPV6] = [
@@ -21,70 +25,64 @@ struct Adler {
     b: u16,
 }
 
-fn main() {
-    let mut buffer = io::large_buffer();
-    let n = io::read_full(STDIN_FILENO, &mut buffer);
-    print_lines(&buffer[..n]);
+fn main(rt: HostRuntime) -> io::Result<()> {
+    let text = streams::read_most(rt.alloc(), rt.reader(), MOST)?;
+    let mut out = BufWriter::new(rt.alloc(), io::writer(&rt))?;
+    print_lines(&mut out, text.as_slice())?;
+    out.flush()
 }
 
-fn print_lines(text: &[u8]) {
+fn print_lines(out: &mut impl Write, text: &[u8]) -> io::Result<()> {
     let mut start = 0;
     let mut end = octets::find(text, 0, b'\n');
     while end < text.len() {
-        print_line(&text[start..end]);
+        print_line(out, &text[start..end])?;
         start = end + 1;
         end = octets::find(text, start, b'\n');
     }
+    Ok(())
 }
 
 // What is made of a vector; nothing of an empty line or a comment.
-fn print_line(line: &[u8]) {
+fn print_line(out: &mut impl Write, line: &[u8]) -> io::Result<()> {
     if line.len() == 0 {
-        return;
+        return Ok(());
     }
     match line[0] {
-        b'#' => {}
-        b'A' => print_sums(),
-        reader => print_vector(reader, line),
+        b'#' => Ok(()),
+        b'A' => print_sums(out),
+        reader => print_vector(out, reader, line),
     }
 }
 
-fn print_vector(reader: u8, line: &[u8]) {
+fn print_vector(out: &mut impl Write, reader: u8, line: &[u8]) -> io::Result<()> {
     if line.len() < 2 {
-        return;
+        return Ok(());
     }
     let text = &line[2..];
     if reader == b'6' {
-        print_address(text);
-        return;
+        return print_address(out, text);
     }
-    let mut out = [0u8; 64];
-    let n = put_line(&mut out, reader, text);
-    io::write_all(STDOUT_FILENO, first(&out, n));
+    let mut put = [0u8; 64];
+    let n = put_line(&mut put, reader, text);
+    out.write_all(first(&put, n))
 }
 
 // IPv6 text: its sixteen octets in hexadecimal, or a hyphen.
-fn print_address(text: &[u8]) {
+fn print_address(out: &mut impl Write, text: &[u8]) -> io::Result<()> {
     let read = address::ipv6(text);
     if !read.valid {
-        io::write_all(STDOUT_FILENO, b"-\n");
-        return;
+        return writeln!(out, "-");
     }
     let octets = read.octets;
-    print_octets(octets);
+    print_octets(out, octets)
 }
 
-fn print_octets(octets: [u8; IPV6]) {
-    let mut i: usize = 0;
-    while i < 16 {
-        io::print_hex(STDOUT_FILENO, wide(octets[i]), 2);
-        i += 1;
+fn print_octets(out: &mut impl Write, octets: [u8; IPV6]) -> io::Result<()> {
+    for x in octets {
+        write!(out, "{x:02x}")?;
     }
-    io::write_all(STDOUT_FILENO, b"\n");
-}
-
-fn wide(x: u8) -> u64 {
-    x as u64
+    writeln!(out)
 }
 
 fn put_line(out: &mut [u8], reader: u8, text: &[u8]) -> usize {
@@ -229,7 +227,7 @@ fn first(out: &[u8], n: usize) -> &[u8] {
 }
 
 // The sums of the PORT lines of all ports and of their 229 lines.
-fn print_sums() {
+fn print_sums(out: &mut impl Write) -> io::Result<()> {
     let start = Adler { a: 1, b: 0 };
     let mut port_lines = start;
     let mut passive_lines = start;
@@ -239,10 +237,9 @@ fn print_sums() {
         passive_lines = with_extended_passive(passive_lines, port as u16);
         port += 1;
     }
-    io::print_decimal(STDOUT_FILENO, number(port_lines));
-    io::write_all(STDOUT_FILENO, b" ");
-    io::print_decimal(STDOUT_FILENO, number(passive_lines));
-    io::write_all(STDOUT_FILENO, b"\n");
+    let ports = number(port_lines);
+    let passives = number(passive_lines);
+    writeln!(out, "{ports} {passives}")
 }
 
 fn with_port_line(before: Adler, port: u16) -> Adler {
