@@ -9,25 +9,34 @@
 ghost use Rattle.std.specs.Prelude.{◌≡◌, ◌≤◌, length};
 
 use counts::DirectionOffset;
-use libc::{STDIN_FILENO, STDOUT_FILENO};
 use records::Session;
 use rules::{SETUP, number_of};
 use session::Called;
+use std::io;
+use std::io::{BufWriter, Write};
 
-fn main() {
-    let mut buffer = io::large_buffer();
-    let n = io::read_full(STDIN_FILENO, &mut buffer);
-    run_scripts(&buffer[..n]);
+// How many octets of its input it reads at most.
+const MOST: u64 = 65536;
+
+// As much room as a call can ask for, and one octet more.
+const ROOM: usize = 65536;
+
+fn main(rt: HostRuntime) -> io::Result<()> {
+    let input = streams::read_most(rt.alloc(), rt.reader(), MOST)?;
+    let mut out = BufWriter::new(rt.alloc(), io::writer(&rt))?;
+    run_scripts(&mut out, input.as_slice())?;
+    out.flush()
 }
 
-fn run_scripts(input: &[u8]) {
+fn run_scripts(out: &mut impl Write, input: &[u8]) -> io::Result<()> {
     let mut at = 0;
     let mut next = script_end(input, at);
     while at < next {
-        run_script(after(&input[at..next], 4));
+        run_script(out, after(&input[at..next], 4))?;
         at = next;
         next = script_end(input, at);
     }
+    Ok(())
 }
 
 // Where the script ends whose length stands at `at`; 0 where there is no whole one.
@@ -50,24 +59,24 @@ fn script_end(input: &[u8], at: usize) -> usize
 }
 
 // Runs a script twice: its results are measured before they are written.
-fn run_script(script: &[u8]) {
+fn run_script(out: &mut impl Write, script: &[u8]) -> io::Result<()> {
     if script.len() < SETUP {
-        write_number(0);
-        return;
+        return write_number(out, 0);
     }
     let p = setups::setup_from(first(script, SETUP));
     let answer = p.answer;
     let start = p.session;
-    let length = run_calls(start, script, false);
-    write_number(sum(length, 1));
-    write_octet(number_of(answer));
-    run_calls(start, script, true);
+    let length = run_calls(out, start, script, false)?;
+    write_number(out, sum(length, 1))?;
+    write_octet(out, number_of(answer))?;
+    run_calls(out, start, script, true)?;
+    Ok(())
 }
 
 // How long the results of a script's calls are; they are written where that is asked for.
-fn run_calls(start: Session, script: &[u8], writes: bool) -> u32 {
-    let mut to_server = io::large_buffer();
-    let mut to_client = io::large_buffer();
+fn run_calls(out: &mut impl Write, start: Session, script: &[u8], writes: bool) -> io::Result<u32> {
+    let mut to_server = [0u8; ROOM];
+    let mut to_client = [0u8; ROOM];
     let mut session = start;
     let mut length = 0;
     let mut at = SETUP;
@@ -75,14 +84,14 @@ fn run_calls(start: Session, script: &[u8], writes: bool) -> u32 {
     while at < next {
         let called = run_call(session, &script[at..next], &mut to_server, &mut to_client);
         if writes {
-            write_called(called, &to_server, &to_client);
+            write_called(out, called, &to_server, &to_client)?;
         }
         session = called.session;
         length = sum(length, called_length(called));
         at = next;
         next = call_end(script, at);
     }
-    length
+    Ok(length)
 }
 
 // Where the call ends that starts at `at`; 0 where there is no whole one.
@@ -132,18 +141,23 @@ fn run_call(session: Session, call: &[u8], to_server: &mut [u8], to_client: &mut
     )
 }
 
-fn write_called(called: Called, to_server: &[u8], to_client: &[u8]) {
+fn write_called(
+    out: &mut impl Write,
+    called: Called,
+    to_server: &[u8],
+    to_client: &[u8],
+) -> io::Result<()> {
     let answer = called.answer;
     let written = called.written;
     let session = called.session;
-    write_octet(number_of(answer));
-    write_number(low_half(called.taken));
-    write_number(low_half(written.server));
-    write_number(low_half(written.client));
-    io::write_all(STDOUT_FILENO, first(to_server, written.server));
-    io::write_all(STDOUT_FILENO, first(to_client, written.client));
-    write_number(offset(session, 0));
-    write_number(offset(session, 1));
+    write_octet(out, number_of(answer))?;
+    write_number(out, low_half(called.taken))?;
+    write_number(out, low_half(written.server))?;
+    write_number(out, low_half(written.client))?;
+    out.write_all(first(to_server, written.server))?;
+    out.write_all(first(to_client, written.client))?;
+    write_number(out, offset(session, 0))?;
+    write_number(out, offset(session, 1))
 }
 
 // How long the result of a call is: one octet, five numbers, and what was written.
@@ -159,24 +173,17 @@ fn offset(session: Session, direction: u8) -> u32 {
     }
 }
 
-fn write_octet(x: u8) {
-    let octets = [x];
-    io::write_all(STDOUT_FILENO, &octets);
+fn write_octet(out: &mut impl Write, x: u8) -> io::Result<()> {
+    out.write_all(&[x])
 }
 
 // Four octets, high first.
-fn write_number(n: u32) {
-    let octets = [
-        (n / 16777216) as u8,
-        (n / 65536 % 256) as u8,
-        (n / 256 % 256) as u8,
-        (n % 256) as u8,
-    ];
-    io::write_all(STDOUT_FILENO, &octets);
+fn write_number(out: &mut impl Write, n: u32) -> io::Result<()> {
+    out.write_all(&n.to_be_bytes())
 }
 
 fn sum(a: u32, b: u32) -> u32 {
-    std::num::wrapping_add_u32(a, b)
+    a.wrapping_add(b)
 }
 
 fn low_half(n: usize) -> u32 {

@@ -7,15 +7,22 @@
 // direction, and the octets taken from either side.
 #![tactic(auto)]
 
-use libc::STDOUT_FILENO;
 use places::{Direction, Place};
 use records::{Control, Session};
 use rules::{HELD, IPV4, IPV6, Layer, Setup, Telnet, number_of};
 use session::Called;
+use std::io;
+use std::io::{BufWriter, Write};
 
 const SIZE: usize = 600;
 
-fn main() {
+fn main(rt: HostRuntime) -> io::Result<()> {
+    let mut out = BufWriter::new(rt.alloc(), io::writer(&rt))?;
+    try_forged(&mut out)?;
+    out.flush()
+}
+
+fn try_forged(out: &mut impl Write) -> io::Result<()> {
     let fresh = setups::setup(Setup {
         client: [0u8; IPV6],
         mapped: [0u8; IPV4],
@@ -23,23 +30,23 @@ fn main() {
         server: [0u8; IPV4],
     })
     .session;
-    io::write_all(STDOUT_FILENO, b"refused\n");
-    try_all(dead(fresh));
-    try_all(with_control(fresh, owing(fresh, 17)));
-    try_all(with_kind(fresh, 0, 9));
-    try_all(with_kind(with_control(fresh, owing(fresh, 16)), 15, 9));
-    try_places(fresh, Place::Holding, HELD + 1);
-    try_places(fresh, Place::Flowing, 1);
-    try_places(fresh, Place::Passing, 1);
-    try_places(fresh, Place::Ended, 1);
-    io::write_all(STDOUT_FILENO, b"taken\n");
-    try_all(with_kind(fresh, 0, 8));
-    try_all(with_kind(fresh, 1, 9));
-    try_all(with_control(fresh, owing(fresh, 16)));
-    try_places(fresh, Place::Holding, HELD);
-    try_all(with_control(fresh, unfinished_and_passing(fresh)));
-    io::write_all(STDOUT_FILENO, b"no such direction\n");
-    try_call(dead(fresh), 2);
+    writeln!(out, "refused")?;
+    try_all(out, dead(fresh))?;
+    try_all(out, with_control(fresh, owing(fresh, 17)))?;
+    try_all(out, with_kind(fresh, 0, 9))?;
+    try_all(out, with_kind(with_control(fresh, owing(fresh, 16)), 15, 9))?;
+    try_places(out, fresh, Place::Holding, HELD + 1)?;
+    try_places(out, fresh, Place::Flowing, 1)?;
+    try_places(out, fresh, Place::Passing, 1)?;
+    try_places(out, fresh, Place::Ended, 1)?;
+    writeln!(out, "taken")?;
+    try_all(out, with_kind(fresh, 0, 8))?;
+    try_all(out, with_kind(fresh, 1, 9))?;
+    try_all(out, with_control(fresh, owing(fresh, 16)))?;
+    try_places(out, fresh, Place::Holding, HELD)?;
+    try_all(out, with_control(fresh, unfinished_and_passing(fresh)))?;
+    writeln!(out, "no such direction")?;
+    try_call(out, dead(fresh), 2)
 }
 
 fn dead(session: Session) -> Session {
@@ -84,49 +91,54 @@ fn unfinished_and_passing(session: Session) -> Control {
 }
 
 // Both directions forged, each by itself.
-fn try_places(session: Session, place: Place, held: usize) {
+fn try_places(out: &mut impl Write, session: Session, place: Place, held: usize) -> io::Result<()> {
     let forged = Direction { place, held };
     let mut said = session.control;
     said.client = forged;
-    try_all(with_control(session, said));
+    try_all(out, with_control(session, said))?;
     let mut answered = session.control;
     answered.server = forged;
-    try_all(with_control(session, answered));
+    try_all(out, with_control(session, answered))
 }
 
-fn try_all(session: Session) {
-    try_call(session, 0);
-    try_call(session, 1);
+fn try_all(out: &mut impl Write, session: Session) -> io::Result<()> {
+    try_call(out, session, 0)?;
+    try_call(out, session, 1)
 }
 
 // An arrival of one octet and an end, each of the record as it came.
-fn try_call(session: Session, direction: u8) {
+fn try_call(out: &mut impl Write, session: Session, direction: u8) -> io::Result<()> {
     let mut to_server = [7u8; SIZE];
     let mut to_client = [7u8; SIZE];
     let arrived = session::arrive(session, direction, b"x", &mut to_server, &mut to_client);
-    print(arrived, &to_server, &to_client);
+    print(out, arrived, &to_server, &to_client)?;
     let mut to_server = [7u8; SIZE];
     let mut to_client = [7u8; SIZE];
     let ended = session::end(session, direction, &mut to_server, &mut to_client);
-    print(ended, &to_server, &to_client);
+    print(out, ended, &to_server, &to_client)
 }
 
-fn print(called: Called, to_server: &[u8], to_client: &[u8]) {
+fn print(
+    out: &mut impl Write,
+    called: Called,
+    to_server: &[u8],
+    to_client: &[u8],
+) -> io::Result<()> {
     let answer = called.answer;
     let written = called.written;
-    print_number(number_of(answer) as usize);
-    print_number(called.taken);
-    print_number(written.server);
-    print_number(written.client);
-    print_edges(to_server);
-    print_edges(to_client);
-    print_record(called.session);
-    io::write_all(STDOUT_FILENO, b"\n");
+    print_number(out, number_of(answer) as usize)?;
+    print_number(out, called.taken)?;
+    print_number(out, written.server)?;
+    print_number(out, written.client)?;
+    print_edges(out, to_server)?;
+    print_edges(out, to_client)?;
+    print_record(out, called.session)?;
+    writeln!(out)
 }
 
-fn print_edges(buffer: &[u8]) {
-    print_number(octet(buffer, 0) as usize);
-    print_number(octet(buffer, SIZE - 1) as usize);
+fn print_edges(out: &mut impl Write, buffer: &[u8]) -> io::Result<()> {
+    print_number(out, octet(buffer, 0) as usize)?;
+    print_number(out, octet(buffer, SIZE - 1) as usize)
 }
 
 fn octet(buffer: &[u8], i: usize) -> u8 {
@@ -136,20 +148,19 @@ fn octet(buffer: &[u8], i: usize) -> u8 {
     0
 }
 
-fn print_record(session: Session) {
+fn print_record(out: &mut impl Write, session: Session) -> io::Result<()> {
     let control = session.control;
     let client = control.client;
     let server = control.server;
     let up = session.up;
     let down = session.down;
-    print_number(control.owed);
-    print_number(client.held);
-    print_number(server.held);
-    print_number(up.taken as usize);
-    print_number(down.taken as usize);
+    print_number(out, control.owed)?;
+    print_number(out, client.held)?;
+    print_number(out, server.held)?;
+    print_number(out, up.taken as usize)?;
+    print_number(out, down.taken as usize)
 }
 
-fn print_number(n: usize) {
-    io::print_decimal(STDOUT_FILENO, n as u64);
-    io::write_all(STDOUT_FILENO, b" ");
+fn print_number(out: &mut impl Write, n: usize) -> io::Result<()> {
+    write!(out, "{n} ")
 }
