@@ -91,6 +91,7 @@ pub fn number_of(answer: PrefixAnswer) -> u8
 }
 
 // Number 9 for another length, and only then number 10.
+#[tactic(auto, unfolding(crate::specs::Prefix::prefix_answer, rules::specs::Octets::choose))]
 fn answer_for(length: u64, bits: bool) -> PrefixAnswer
     ensures { result ≡ prefix_answer length bits }
 {
