@@ -126,8 +126,11 @@ def public_functions(crate):
     """The functions that other crates can call: those of lib.rt, and those of its modules that it hands on."""
     library = ROOT / "crates" / crate / "src" / "lib.rt"
     names = functions_in(library)
-    handed = re.findall(r"^pub use (\w+)::(\w+);", library.read_text(), re.M) if library.exists() else []
-    return names + [name for module, name in handed if name in functions_in(library.with_name(f"{module}.rt"))]
+    handed = re.findall(r"^pub use (\w+)::(?:(\w+)|\{([^}]*)\});", library.read_text(), re.M) if library.exists() else []
+    for module, one, several in handed:
+        inside = functions_in(library.with_name(f"{module}.rt"))
+        names += [name for name in re.findall(r"\w+", one or several) if name in inside]
+    return names
 
 
 def edits(crate):
@@ -168,7 +171,7 @@ def faults():
                 yield f"{where}: {module}.{name} is not declared"
             elif len(pages) > 1:
                 yield f"{where}: {module}.{name} is declared in {' and in '.join(map(str, pages))}"
-        for crate, name in re.findall(r"`([a-z]+)::(\w+)`", text):
+        for crate, name in re.findall(r"`([a-z_]+)::(\w+)`", text):
             if name not in public_functions(crate):
                 yield f"{where}: {crate}::{name} is no public function"
     for title in TRACED:

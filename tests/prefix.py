@@ -35,10 +35,10 @@ AT_ONCE = 500
 USAGE = "usage: ./prefix PREFIX/LENGTH ADDRESS.."
 # a stand-in for rt: it ends with the status there, and makes the program that is named there
 STAND_IN = """#!/bin/sh
-[ "$*" = "check prefixes" ] && [ -f crates.txt ] || exit 9
+[ "$*" = run ] && [ -f src/main.rt ] && [ -f ../../crates.txt ] || exit 9
 echo what rt writes
 [ "$STATUS" -eq 0 ] || exit "$STATUS"
-mkdir -p target/bin && cp "$MAKES" target/bin/prefixes
+mkdir -p out && cp "$MAKES" out/prefixes
 """
 
 
@@ -206,29 +206,35 @@ def command_checks():
 def build_checks(program, folder):
     """A copy of the command in a folder with nothing built, and a stand-in for rt."""
     tree, tools = folder / "tree", folder / "tools"
-    (tree / "crates").mkdir(parents=True)
+    (tree / "crates/prefixes/src").mkdir(parents=True)
+    (tree / "tools").mkdir()
     tools.mkdir()
-    shutil.copy(COMMAND, tree / "prefix")
-    (tree / "crates.txt").write_text("prefixes: io\n")
+    for name in ("prefix", "tools/build"):
+        shutil.copy(ROOT / name, tree / name)
+    (tree / "crates/prefixes/src/main.rt").write_text("// A program.\n")
+    (tree / "crates.txt").write_text("rules:\nprefixes: rules\n")
     (tools / "rt").write_text(STAND_IN)
     (tools / "rt").chmod(0o755)
     made = {"PATH": f"{tools}:{os.environ['PATH']}", "MAKES": str(pathlib.Path(program).resolve())}
     good = {"command": tree / "prefix", "env": {**os.environ, **made, "STATUS": "0"}}
     bad = {"command": tree / "prefix", "env": {**os.environ, **made, "STATUS": "1"}}
-    first = "proving and building the program, about a minute the first time\n"
-    end = "the program is not built; target/prefixes.log has all that rt wrote\n"
+    first = "proving and building prefixes, 2 crates, some minutes the first time\n"
+    end = "what rt writes\nprefixes is not built; target/prefixes.log has all that rt wrote\n./prefix: the program is not built\n"
     words, written = ("2001:db8::/32", "192.0.2.33"), "2001:db8:c000:221::\n"
-    yield "a program that is not built", run(*words, **bad) == (1, "", f"{first}./prefix: what rt writes\n{end}")
+    yield "a program that is not built", run(*words, **bad) == (1, "", f"{first}{end}")
     yield "a word that is wrong builds nothing", run("x", "y", **bad)[0] == 2
     yield "a program that is built first", run(*words, **good) == (0, written, first)
     yield "and once only", run(*words, **bad) == (0, written, "")
-    later = (tree / "target/bin/prefixes").stat().st_mtime + 5
+    later = (tree / "crates/prefixes/out/prefixes").stat().st_mtime + 5
     os.utime(tree / "crates.txt", (later, later))
     yield "a source that is newer", run(*words, **bad)[:2] == (1, "")
-    # a path with what the command needs and no rt
+    # a path with what the commands need and no rt
     (tree / "python3").symlink_to(sys.executable)
+    for tool in ("sh", "dirname", "sed", "find", "awk", "wc"):
+        (tree / tool).symlink_to(shutil.which(tool))
     alone = {"command": tree / "prefix", "env": {"PATH": str(tree)}}
-    yield "where there is no rt", run(*words, **alone) == (1, "", f"{first}./prefix: there is no command rt, which comes with the Rattle kit\n")
+    none = "there is no command rt, which comes with the Rattle kit\n./prefix: the program is not built\n"
+    yield "where there is no rt", run(*words, **alone) == (1, "", none)
 
 
 def main():

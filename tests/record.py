@@ -43,7 +43,7 @@ def told(path, pattern, value):
 
 def faults():
     known = numbers()
-    fields = [name for name in known if name.endswith("At")]
+    fields = [name for name in known if name.endswith("_at")]
     table = list(rows())
     if [name for _, _, name in table] != fields:
         yield f"docs/RECORD.md: the table's fields are not {', '.join(fields)}"

@@ -25,10 +25,10 @@ TEXTS = [b"# a comment\n", b"setup ::1 192.0.2.31\n", b"\n \n\tsetup ::1\r\n", b
 OTHERS = [b"", b"\n", b"# a\0\n", b"setup \xe9\n", b"# \x7f\n", b"\0\1", b"hello\nsetup ::1\n", b"clientele\n", b"\0\2# setup\n"]
 # a stand-in for rt: it writes what its environment has, makes the program that is named there, and ends with the status there
 STAND_IN = """#!/bin/sh
-[ "$*" = "check replay" ] && [ -f crates.txt ] || exit 9
+[ "$*" = run ] && [ -f src/main.rt ] && [ -f ../../crates.txt ] || exit 9
 printf '%b' "$WRITES"
 [ "$STATUS" -eq 0 ] || exit "$STATUS"
-mkdir -p target/bin && cp "$MAKES" target/bin/replay
+mkdir -p out && cp "$MAKES" out/replay
 """
 
 
@@ -136,10 +136,12 @@ def building(folder, program, writes, status):
     for path in (tree, tools):
         shutil.rmtree(path, ignore_errors=True)
         path.mkdir()
-    for name in ("replay", "session-file"):
+    (tree / "tools").mkdir()
+    for name in ("replay", "session-file", "tools/build"):
         shutil.copy(ROOT / name, tree / name)
-    (tree / "crates").mkdir()
-    (tree / "crates.txt").write_text("rules:\nother: rules\nlines: rules libc\nreport: lines rules\nreplay: report lines io libc\n")
+    (tree / "crates/replay/src").mkdir(parents=True)
+    (tree / "crates/replay/src/main.rt").write_text("// A program.\n")
+    (tree / "crates.txt").write_text("replay: report lines csv\nrules:\nother: rules  # beside it\nlines: rules csv\nreport: lines rules\n")
     (tools / "rt").write_text(STAND_IN)
     (tools / "rt").chmod(0o755)
     found = {"PATH": f"{tools}:{os.environ['PATH']}", "TERM": "xterm", "WRITES": writes, "STATUS": str(status), "MAKES": str(pathlib.Path(program).resolve())}
@@ -148,10 +150,11 @@ def building(folder, program, writes, status):
 
 def build_checks(folder, program):
     sample, names = SAMPLES / "auth.session", ["rules", "lines", "report", "replay"]
-    first = "proving and building the replay, 4 crates, some minutes the first time\n"
-    told = [f"proved {at} of 4: {name} ({at} s)" for at, name in enumerate(names, 1)]
-    proved = "".join(f"logic=proved {name}\nrt: {name} proved ({at} s)\n" for at, name in enumerate(names, 1))
-    ran = "rt: replay ran, and wrote what it should (0 s)\nrt: ok, 4 crates proved\n"
+    first = "proving and building replay, 4 crates, some minutes the first time\n"
+    told = [f"proved {at} of 4: {name}" for at, name in enumerate(names, 1)]
+    begun = {name: f"rt: chose --jobs 2 for {name}\n" for name in names}
+    proved = "".join(f"{begun[name]}fn {name}::f: proved\nlogic=proved functions=1\n" for name in names)
+    ran = "rt: running out/replay; to give it other input, run that file yourself\nREFUSED 7\n"
 
     tree, settings = building(folder, program, proved + ran, 0)
     yield "a build tells each crate that is proved, and how many there are", (
@@ -159,26 +162,29 @@ def build_checks(folder, program):
     )
     yield "what rt wrote is kept", (tree / "target/replay.log").read_text() == proved + ran
     yield "nothing is told where all is built", run(tree / "replay", sample, **settings) == (0, report("auth"), "")
+    later = (tree / "crates/replay/out/replay").stat().st_mtime + 5
+    os.utime(tree / "crates/replay/src/main.rt", (later, later))
+    yield "a source that is newer is built", run(tree / "replay", sample, **settings)[2].startswith(first)
     tree, settings = building(folder, program, proved + ran, 0)
     rewritten = "".join(f"\r\033[K{line}" for line in told)
     yield "a terminal has one line, written anew", terminal([tree / "replay", sample], settings) == f"{first}{rewritten}\n".replace("\n", "\r\n")
-    tree, settings = building(folder, program, "rt: rules proved (unchanged since it was last proved)\n", 0)
-    yield "a crate that is as it was counts", "proved 1 of 4: rules (unchanged since it was last proved)\n" in run(tree / "replay", sample, **settings)[2]
+    tree, settings = building(folder, program, f"{begun['report']}logic=proved functions=1\n", 0)
+    yield "a crate that is as it was counts", run(tree / "replay", sample, **settings)[2] == f"{first}proved 3 of 4: report\n"
 
-    bad = "rt: rules proved (1 s)\nwhat is wrong\nrt: lines NOT PROVED (exit 1, 2 s)\nrt: FAILED: lines"
+    bad = f"{begun['rules']}logic=proved functions=1\n{begun['lines']}what is wrong\nlogic=not-proved\nrt: the library lines did not build"
     for status in (1, 2, 3):
         tree, settings = building(folder, program, bad, status)
         status, written, said = run(tree / "replay", sample, **settings)
         yield "a crate that is not proved is told, with the end of the log", status == 1 and not written and (
-            said.startswith(f"{first}proved 1 of 4: rules (1 s)\nlines NOT PROVED (exit 1, 2 s)\n")
-            and "what is wrong\n" in said and "rt: FAILED: lines\n" in said and said.endswith("target/replay.log has all that rt wrote\n")
+            said.startswith(f"{first}proved 1 of 4: rules\nlines NOT PROVED\n")
+            and "what is wrong\n" in said and "rt: the library lines did not build\n" in said and said.endswith("target/replay.log has all that rt wrote\n")
         )
-        yield "then there is no program", not (tree / "target/bin/replay").exists()
+        yield "then there is no program", not (tree / "crates/replay/out/replay").exists()
     tree, settings = building(folder, program, "x\n" * 1000 + bad, 1)
     yield "no more than the end of a long log", run(tree / "replay", sample, **settings)[2].count("\n") < 50
     tree, _ = building(folder, program, proved, 0)
     # a path with what the command needs and no rt
-    for tool in ("sh", "dirname", "mktemp", "rm", "sed", "cat", "find"):
+    for tool in ("sh", "dirname", "mktemp", "rm", "sed", "cat", "find", "awk", "wc"):
         (tree / tool).symlink_to(shutil.which(tool))
     result = run(tree / "replay", sample, env={"PATH": str(tree)})
     yield "where there is no rt", result[0] == 1 and complains(result, "there is no command rt")
