@@ -1,5 +1,5 @@
 /* The FTP control channel gateway (RFC 6384) for a host in C, on x86-64: link libfashlemor.a, which
- * `rt staticlib fashlemor` makes in target/staticlib. docs/HOST.md is the guide to writing a host.
+ * `./library` makes in target/staticlib. docs/HOST.md is the guide to writing a host.
  *
  * A host has a record for each control connection, hands in what arrives from either side, and
  * sends what then stands in the two buffers. The library owns no sockets, allocates nothing, keeps

@@ -21,7 +21,7 @@ def commands(folder, programs):
     """Each command with its name; the gate as a copy in a folder, where it would find nothing to do."""
     (folder / ".ci").mkdir()
     yield ".ci/run", [shutil.copy(ROOT / ".ci/run", folder / ".ci/run")]
-    for name in ("replay", "session-file", "prefix"):
+    for name in ("replay", "session-file", "prefix", "library", "tools/build"):
         yield name, [ROOT / name]
     for path in sorted((ROOT / "tests").glob("*.py")):
         if path.name not in MODULES:

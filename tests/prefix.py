@@ -225,8 +225,7 @@ def build_checks(program, folder):
     yield "a word that is wrong builds nothing", run("x", "y", **bad)[0] == 2
     yield "a program that is built first", run(*words, **good) == (0, written, first)
     yield "and once only", run(*words, **bad) == (0, written, "")
-    later = (tree / "crates/prefixes/out/prefixes").stat().st_mtime + 5
-    os.utime(tree / "crates.txt", (later, later))
+    os.utime(tree / "crates/prefixes/out/prefixes", (0, 0))
     yield "a source that is newer", run(*words, **bad)[:2] == (1, "")
     # a path with what the commands need and no rt
     (tree / "python3").symlink_to(sys.executable)

@@ -162,8 +162,7 @@ def build_checks(folder, program):
     )
     yield "what rt wrote is kept", (tree / "target/replay.log").read_text() == proved + ran
     yield "nothing is told where all is built", run(tree / "replay", sample, **settings) == (0, report("auth"), "")
-    later = (tree / "crates/replay/out/replay").stat().st_mtime + 5
-    os.utime(tree / "crates/replay/src/main.rt", (later, later))
+    os.utime(tree / "crates/replay/out/replay", (0, 0))
     yield "a source that is newer is built", run(tree / "replay", sample, **settings)[2].startswith(first)
     tree, settings = building(folder, program, proved + ran, 0)
     rewritten = "".join(f"\r\033[K{line}" for line in told)

@@ -11,7 +11,7 @@ usage: compare [--seed N] [--count N] [--lists N] [--records N] [--replay-count 
   --records       forged records, and as many shaken ones                           (5000)
   --replay-count  sessions through the program replay, a process each               (3000)
   --damaged       damaged files through the program replay, a process each          (3000)
-  --replay        that program                                                      (target/bin/replay)
+  --replay        that program                                                      (crates/replay/out/replay)
   --samples       the folder of session files with their reports                    (samples)";
 
 pub struct Options {
@@ -34,7 +34,7 @@ impl Options {
             records: 5_000,
             replay_count: 3_000,
             damaged: 3_000,
-            replay: PathBuf::from("target/bin/replay"),
+            replay: PathBuf::from("crates/replay/out/replay"),
             samples: PathBuf::from("samples"),
         }
     }

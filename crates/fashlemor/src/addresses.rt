@@ -6,8 +6,7 @@ ghost use Rattle.prefix.specs.Slices.{embed_answer, embed_after, extract_answer,
 use prefix::{embed_into, extract_into, number_of};
 
 // Puts an IPv4 address behind a prefix, into the IPv6 address.
-#[unsafe(no_mangle)]
-pub extern "C" fn fashlemor_embed(prefix: &[u8], length: u64, ipv4: &[u8], ipv6: &mut [u8]) -> u8
+pub fn fashlemor_embed(prefix: &[u8], length: u64, ipv4: &[u8], ipv6: &mut [u8]) -> u8
     ensures number { let answer = embed_answer prefix.now length ipv4.now ipv6.old in
         result ≡ prefix_number answer }
     ensures address { ipv6.new ≡ embed_after prefix.now length ipv4.now ipv6.old }
@@ -17,8 +16,7 @@ pub extern "C" fn fashlemor_embed(prefix: &[u8], length: u64, ipv4: &[u8], ipv6:
 }
 
 // Takes the IPv4 address out of an IPv6 address, into the IPv4 address.
-#[unsafe(no_mangle)]
-pub extern "C" fn fashlemor_extract(ipv6: &[u8], length: u64, ipv4: &mut [u8]) -> u8
+pub fn fashlemor_extract(ipv6: &[u8], length: u64, ipv4: &mut [u8]) -> u8
     ensures number { result ≡ prefix_number (extract_answer ipv6.now length ipv4.old) }
     ensures address { ipv4.new ≡ extract_after ipv6.now length ipv4.old }
 {

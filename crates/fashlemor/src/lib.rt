@@ -23,8 +23,7 @@ mod addresses;
 pub use addresses::{fashlemor_embed, fashlemor_extract};
 
 // Writes the record of a fresh session, or the record of a setup that is refused.
-#[unsafe(no_mangle)]
-pub extern "C" fn fashlemor_setup(image: &mut [u8], setup: &[u8]) -> u8
+pub fn fashlemor_setup(image: &mut [u8], setup: &[u8]) -> u8
     ensures number { result ≡ setup_number image.old (prepared_from setup.now) }
     ensures record { let p = prepared_from setup.now in
         image.new ≡ put_at image.old 0 (image_of p.session) }
@@ -41,8 +40,7 @@ pub extern "C" fn fashlemor_setup(image: &mut [u8], setup: &[u8]) -> u8
 }
 
 // Octets of a direction arrive; what they give goes into the two buffers.
-#[unsafe(no_mangle)]
-pub extern "C" fn fashlemor_arrive(
+pub fn fashlemor_arrive(
     image: &mut [u8],
     direction: u64,
     octets: &[u8],
@@ -71,8 +69,7 @@ pub extern "C" fn fashlemor_arrive(
 }
 
 // A direction ends: its held octets go into its buffer.
-#[unsafe(no_mangle)]
-pub extern "C" fn fashlemor_end(
+pub fn fashlemor_end(
     image: &mut [u8],
     direction: u64,
     to_server: &mut [u8],
@@ -100,8 +97,7 @@ pub extern "C" fn fashlemor_end(
 }
 
 // The offset of a direction; nothing is set for one that there is not.
-#[unsafe(no_mangle)]
-pub extern "C" fn fashlemor_offset(image: &[u8], direction: u64, out: &mut u32) -> u8
+pub fn fashlemor_offset(image: &[u8], direction: u64, out: &mut u32) -> u8
     ensures number { result ≡ offset_number (offset_in (session_of image.now) direction) }
     ensures offset { out.new ≡ offset_after (offset_in (session_of image.now) direction) out.old }
 {

@@ -1,6 +1,6 @@
 //! The FTP control channel gateway (RFC 6384) from Rust: safe functions over the static library
-//! that `rt staticlib fashlemor` makes. `relay/fashlemor.h` says what each one does, and
-//! `docs/HOST.md` how to write a host.
+//! that `./library` makes. `relay/fashlemor.h` says what each one does, and `docs/HOST.md` how to
+//! write a host.
 //!
 //! A host keeps a [`Session`] for each control connection and hands in whatever arrives:
 //!
