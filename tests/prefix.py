@@ -229,7 +229,7 @@ def build_checks(program, folder):
     yield "a source that is newer", run(*words, **bad)[:2] == (1, "")
     # a path with what the commands need and no rt
     (tree / "python3").symlink_to(sys.executable)
-    for tool in ("sh", "dirname", "sed", "find", "awk", "wc"):
+    for tool in ("sh", "dirname", "sed", "find", "awk", "wc", "mkdir"):
         (tree / tool).symlink_to(shutil.which(tool))
     alone = {"command": tree / "prefix", "env": {"PATH": str(tree)}}
     none = "there is no command rt, which comes with the Rattle kit\n./prefix: the program is not built\n"

@@ -183,7 +183,7 @@ def build_checks(folder, program):
     yield "no more than the end of a long log", run(tree / "replay", sample, **settings)[2].count("\n") < 50
     tree, _ = building(folder, program, proved, 0)
     # a path with what the command needs and no rt
-    for tool in ("sh", "dirname", "mktemp", "rm", "sed", "cat", "find", "awk", "wc"):
+    for tool in ("sh", "dirname", "mktemp", "rm", "sed", "cat", "find", "awk", "wc", "mkdir"):
         (tree / tool).symlink_to(shutil.which(tool))
     result = run(tree / "replay", sample, env={"PATH": str(tree)})
     yield "where there is no rt", result[0] == 1 and complains(result, "there is no command rt")
