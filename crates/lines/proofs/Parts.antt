@@ -7,7 +7,7 @@ use borrow.Author.Tests.{eq-eqb, ne_eqb}
 use lib.ListN.{length, get_or, take, drop}
 use lib.Seq.{drop-drop}
 use Rattle.rules.specs.Octets.{cr, space, is, is_not, choose, run, after, trim_end}
-use Rattle.rules.specs.Lines.{content, word, argument}
+use Rattle.rules.specs.Lines.{content, argument}
 
 pub content-empty : (l : List ℕ) → length l ≡ 0 → l ≡ content l
 unfolding content choose

@@ -1,5 +1,3 @@
-use mathlib.Core.Logic.{⊎_elim}
-use Prim.Native.Nat.{◌-◌}
 use native.Mathlib.Omega.{arith}
 use Rattle.address.proofs.Halves.{behind-nil, halves-on, halves-here, halves-none}
 use Rattle.address.proofs.double_colon.Goals as goal

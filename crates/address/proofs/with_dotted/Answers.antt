@@ -1,5 +1,4 @@
 use mathlib.Core.Path.{refl, sym, ◌∙◌}
-use Prim.Native.Nat.{◌-◌}
 use native.Mathlib.Omega.{arith}
 use Rattle.address.proofs.Texts.{dotted-on, dotted-end}
 use Rattle.address.proofs.with_dotted.Goals as goal

@@ -1,6 +1,5 @@
 -- By the length, then by the fifth octet where there is one.
 use mathlib.Core.Path.{sym, ◌∙◌}
-use mathlib.Core.Logic.{⊎_elim}
 use native.Mathlib.Omega.{arith}
 use lib.Seq.{length-take-le}
 use Rattle.commands.proofs.Begins.{begins-short, begins-longer, begins-front}

@@ -1,13 +1,9 @@
 -- By the word of the content: it is Other, or one of those before it.
 use mathlib.Core.Path.{◌≡◌, refl, sym, ◌∙◌}
 use mathlib.Core.Bool.{false}
-use mathlib.Core.List.{[], ◌∷◌}
 use Rattle.commands.specs.Plain.{is_other}
 use Rattle.commands.proofs.Words.{by-plain}
-use types.Run.{OneOf, miss}
-use denote.Enum.Declared.{tag_of}
 use Rattle.rules.specs.declared.CommandWord.{CommandWord}
-use Rattle.rules.specs.contracts.CommandWord.{the_type}
 use Rattle.commands.proofs.is_plain.Goals as goal
 
 -- an arm for all but Other is another word

@@ -1,5 +1,4 @@
 use mathlib.Core.Path.{refl, sym, ◌∙◌}
-use Prim.Native.Nat.{◌-◌}
 use native.Mathlib.Omega.{arith}
 use Rattle.octets.proofs.Words.{alike-lengths, alike-more, alike-stops, alike_end}
 use Rattle.octets.proofs.alike.Goals as goal

@@ -1,5 +1,4 @@
 use mathlib.Core.Path.{refl}
-use Prim.Native.Nat.{◌-◌}
 use native.Mathlib.Omega.{arith}
 use Rattle.rules.specs.Octets.{digit}
 use Rattle.octets.proofs.Ranges.{is_within, is_below, is-above}

@@ -1,5 +1,4 @@
 -- `own::answer_length` meets its contract: by the answer and, for a 216, the switches.
-use mathlib.Core.Logic.{⊎_elim}
 use mathlib.Core.Path.{sym}
 use Rattle.rules.specs.Replies.{state_line, answer_line}
 use Rattle.own.proofs.Lengths.{state-short}
