@@ -8,7 +8,7 @@ use Prim.Native.Nat.{ℕ, ◌+◌, ◌-◌, ◌<◌}
 use native.Mathlib.Nat.{add-zero}
 use native.Mathlib.Omega.{arith}
 use lib.Dec.{lit<, lit≤}
-use lib.ListN.{length, take, drop, set, replicate, length-append}
+use lib.ListN.{length, take, set, replicate, length-append}
 use lib.Seq.{set-append_seam, append_snoc}
 use borrow.Author.Tests.{lt-ltb}
 use Rattle.rules.specs.Octets.{oct, lf, iac, octets-opened}

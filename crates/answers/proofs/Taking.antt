@@ -10,7 +10,7 @@ use native.Mathlib.Omega.{arith}
 use lib.Dec.{leb, ltb}
 use lib.ListN.{length, take, get_or, length-append}
 use borrow.Author.Tests.{leb-true, leb-false, ltb-true, ltb-false}
-use Rattle.rules.specs.Answers.{Side, client, side_of, answer_number, most_owed, is_queue_full, fits, stop}
+use Rattle.rules.specs.Answers.{Side, side_of, answer_number, most_owed, is_queue_full, fits, stop}
 use Rattle.rules.specs.declared.Answer.{Answer}
 use Rattle.places.specs.declared.Place.{Place}
 use Rattle.rules.specs.declared.Fixed.{Fixed}

@@ -9,7 +9,7 @@ use lib.Dec.{eqb}
 use lib.ListN.{length, take, drop, get_or, drop_of_length-le, take-append-drop}
 use lib.Seq.{length-take-le, drop-cons, drop-drop}
 use Rattle.rules.specs.Octets.{choose}
-use Rattle.rules.specs.Answers.{Side, client, server, is_queue_full, fits, stop, answer_number}
+use Rattle.rules.specs.Answers.{Side, is_queue_full, fits, stop, answer_number}
 use Rattle.rules.specs.declared.Answer.{Answer}
 use Rattle.records.specs.Layout.{lent_size}
 use Rattle.output.specs.Buffer.{put_at}

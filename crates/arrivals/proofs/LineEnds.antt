@@ -1,16 +1,16 @@
 -- The step of an LF whose line passes as it is, where nothing leaves the queue behind it.
 use mathlib.Core.Path.{◌≡◌, refl, sym, ap, subst, ◌∙◌}
-use mathlib.Core.Bool.{Bool, true, false, false≢true}
+use mathlib.Core.Bool.{Bool, true, false≢true}
 use mathlib.Core.List.{List, [], ◌∷◌, ◌++◌}
-use Prim.Native.Nat.{ℕ, zero, suc, ◌+◌, ◌-◌, ◌<◌}
+use Prim.Native.Nat.{ℕ, zero, suc, ◌+◌, ◌<◌}
 use native.Mathlib.Omega.{arith}
 use lib.Dec.{ltb}
 use lib.ListN.{length, take, set}
 use borrow.Author.Tests.{lt-leb}
 use Rattle.rules.specs.Octets.{choose, lf, iac, is_not, every}
 use Rattle.rules.specs.Lines.{passed}
-use Rattle.rules.specs.Commands.{command, command_owes, command_switches}
-use Rattle.rules.specs.Answers.{client, server}
+use Rattle.rules.specs.Commands.{command_owes, command_switches}
+use Rattle.rules.specs.Answers.{client}
 use Rattle.octets.proofs.Passed.{passed-itself}
 use Rattle.output.specs.Buffer.{Put}
 use Rattle.output.proofs.Placing.{written}

@@ -14,7 +14,7 @@ use Rattle.rules.specs.Octets.{choose, lf, every}
 use Rattle.rules.specs.Lines.{content, most_held, passed, is_ordinary}
 use Rattle.rules.specs.Telnet.{cleared}
 use Rattle.rules.specs.Replies.{is_open, reply_line, opening_after, head_answers, auth_at_head}
-use Rattle.rules.specs.Answers.{client, server, is_queue_full, most_owed}
+use Rattle.rules.specs.Answers.{server, is_queue_full, most_owed}
 use Rattle.rules.specs.declared.ReplyLine.{ReplyLine}
 use Rattle.records.specs.Layout.{lent_kinds, lent_command, lent_reply, lent_size}
 use Rattle.octets.proofs.Ranges.{and_both}

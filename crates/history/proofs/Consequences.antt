@@ -5,7 +5,7 @@ use mathlib.Core.List.{List, [], ◌∷◌, ◌++◌}
 use mathlib.Core.Option.{Option, none, some}
 use Prim.Native.Nat.{ℕ, ◌-◌}
 use lib.ListN.{length, take, drop}
-use Rattle.rules.specs.Answers.{Side, client, server, side_of, fits, stop}
+use Rattle.rules.specs.Answers.{Side, client, side_of, fits, stop}
 use Rattle.rules.specs.Setup.{setup_switches}
 use Rattle.rules.specs.Edition.{document01}
 use Rattle.rules.specs.History.{Item, text_of, has_ended}

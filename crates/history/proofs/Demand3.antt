@@ -3,7 +3,7 @@
 use mathlib.Core.Path.{◌≡◌, refl, sym, ap, ◌∙◌, subst}
 use mathlib.Core.Bool.{true}
 use mathlib.Core.List.{List, [], ◌∷◌, ◌++◌}
-use Prim.Native.Nat.{ℕ, ◌+◌, ◌-◌}
+use Prim.Native.Nat.{ℕ, ◌+◌}
 use native.Mathlib.Nat.{add-zero, zero-add, add_assoc}
 use native.Mathlib.Omega.{arith}
 use lib.ListN.{length, take, drop, length-append}
@@ -29,25 +29,7 @@ use Rattle.rules.specs.Items.{
 }
 use Rattle.rules.specs.Pieces.{roles_of, spoken}
 use Rattle.rules.specs.declared.Layer.{Layer}
-use Rattle.rules.specs.Demand3.{
-  Call,
-  arrival,
-  ending,
-  Return,
-  Made,
-  Calls,
-  no_calls,
-  next,
-  items_of as made_items,
-  history_of,
-  gone_to_server,
-  gone_to_client,
-  pieces_of,
-  lent_server,
-  lent_client,
-  Kept,
-  Demand3,
-}
+use Rattle.rules.specs.Demand3.{Call, arrival, ending, Return, Made, Calls, no_calls, next, items_of as made_items, history_of, gone_to_server, gone_to_client, pieces_of, lent_server, lent_client, Demand3}
 use Rattle.places.specs.declared.Place.{Place}
 use Rattle.records.specs.declared.Session.{Session}
 use Rattle.rules.specs.declared.Fixed.{Fixed}

@@ -3,7 +3,7 @@ use mathlib.Core.Path.{◌≡◌, refl, sym, ap, ◌∙◌}
 use mathlib.Core.Bool.{Bool, true, false, and-true}
 use mathlib.Core.List.{List, ◌++◌}
 use mathlib.Core.Option.{Option, none}
-use Prim.Native.Nat.{ℕ, zero, suc, ◌+◌, ◌*◌, ◌≤◌, ◌<◌}
+use Prim.Native.Nat.{ℕ, ◌+◌, ◌*◌, ◌≤◌, ◌<◌}
 use lib.Dec.{leb, leb-zero}
 use lib.ListN.{length, drop, length-append, length-take}
 use borrow.Author.Tests.{le-leb, lt-leb}
@@ -20,7 +20,7 @@ use Rattle.output.specs.Buffer.{put_at}
 use Rattle.steps.specs.Steps.{State, held_of, let_go_of}
 use Rattle.steps.specs.Takes.{Took, takes, Core, core_from, core_took}
 use Rattle.session.specs.Calls.{Outcome, state_of, session_after, refused, unless_refused, outcome, arrived, goes_to, end_step, end_outcome, held_end, buffer_after, end_called}
-use Rattle.records.specs.Sound.{refusal_of, refusal_by, side_if}
+use Rattle.records.specs.Sound.{refusal_of, refusal_by}
 use Rattle.records.specs.Controls.{unfinished_of}
 use Rattle.records.proofs.Sides.{not-zero}
 use Rattle.records.proofs.Refusals.{by_answer}

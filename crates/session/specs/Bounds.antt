@@ -1,5 +1,5 @@
 -- "The session": how much one octet writes, and that a call goes on where there is room.
-use Rattle.std.specs.Prelude.{◌≡◌, true, false, List, ◌≢◌, ℕ, ◌-◌, ◌^◌, ◌≤◌, ◌<◌, leb, length}
+use Rattle.std.specs.Prelude.{◌≡◌, true, false, List, ◌≢◌, ℕ, ◌^◌, ◌≤◌, ◌<◌, leb, length}
 use Rattle.rules.specs.Octets.{every}
 use Rattle.rules.specs.Answers.{Side, most_owed, most_to_server, most_to_client, is_queue_full}
 use Rattle.rules.specs.Lines.{most_held}

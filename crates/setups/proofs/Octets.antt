@@ -1,5 +1,5 @@
 -- A setup from octets: refused, or read part by part.
-use mathlib.Core.Path.{◌≡◌, sym, ap, ◌∙◌}
+use mathlib.Core.Path.{◌≡◌, sym, ◌∙◌}
 use mathlib.Core.List.{List}
 use Prim.Native.Nat.{ℕ, ◌+◌, ◌≤◌}
 use native.Mathlib.Omega.{arith}
@@ -8,7 +8,6 @@ use lib.Seq.{length-take-le}
 use borrow.Author.Tests.{eq-eqb, ne_eqb}
 use Rattle.rules.specs.Octets.{choose}
 use Rattle.rules.specs.Setup.{ipv6_width, ipv4_width, setup_size, setup_in}
-use Rattle.rules.specs.declared.Setup.{Setup}
 use Rattle.output.specs.Buffer.{put_at}
 use Rattle.output.proofs.Front.{filled}
 use Rattle.setups.specs.declared.Prepared.{Prepared}

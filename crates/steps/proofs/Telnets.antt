@@ -1,14 +1,11 @@
 -- An octet that makes none of a line, and an octet through the Telnet layer: whether its step fits, and what is there after it.
 use mathlib.Core.Path.{◌≡◌, refl, sym, ap, subst, ◌∙◌}
 use mathlib.Core.Bool.{Bool, true, false, not}
-use mathlib.Core.List.{List, [], ◌∷◌, ◌++◌}
+use mathlib.Core.List.{List, [], ◌++◌}
 use Prim.Native.Nat.{ℕ, ◌+◌, ◌-◌, ◌*◌, ◌<◌, ◌≤◌}
 use native.Mathlib.Omega.{arith}
 use lib.ListN.{length, take, length-append}
 use Rattle.rules.specs.Octets.{choose}
-use types.Run.{OneOf, miss}
-use denote.Enum.Declared.{tag_of}
-use Rattle.rules.specs.contracts.Does.{the_type}
 use Rattle.rules.specs.Answers.{Side, client, server, most_answers, is_queue_full}
 use Rattle.rules.specs.Telnet.{layer_octet, data_of}
 use Rattle.rules.specs.declared.Layer.{Layer}

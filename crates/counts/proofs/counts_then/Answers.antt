@@ -1,5 +1,4 @@
 -- `counts::counts_then` meets its contract. The octets taken count for the side that they came from.
-use Rattle.std.proofs.Common.{⊎_elim}
 use Rattle.records.specs.Sound.{side_if}
 use Rattle.counts.proofs.Wrapping.{counts-by}
 use Rattle.counts.proofs.counts_then.Goals as goal

@@ -1,5 +1,5 @@
 -- `counts::offset` meets its contract: what wraps back to the octets written is the difference.
-use Rattle.std.proofs.Common.{◌^◌, ◌<◌, ⊎_elim, arith}
+use Rattle.std.proofs.Common.{◌^◌, ◌<◌, arith}
 use Rattle.counts.proofs.Wrapping.{other-direction, server-offset, client-offset}
 use Rattle.counts.proofs.offset.Goals as goal
 use Rattle.counts.proofs.offset.Goals.{then-direction-eq1, else-direction-eq1}

@@ -1,7 +1,6 @@
 -- No room by one of the tests, or the octet put after the held ones.
 use mathlib.Core.List.{[], ◌∷◌, ◌++◌}
 use native.Mathlib.Omega.{arith}
-use lib.ListN.{length}
 use Rattle.rules.specs.Lines.{passed}
 use lib.ListN.{length-append}
 use Rattle.output.proofs.Placing.{no_room, joined}

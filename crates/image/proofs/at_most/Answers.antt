@@ -1,4 +1,4 @@
-use Rattle.std.proofs.Common.{◌-◌, leb, sym, refl, ◌∙◌, arith, le-leb}
+use Rattle.std.proofs.Common.{leb, sym, refl, ◌∙◌, arith, le-leb}
 use borrow.Author.Tests.{lt-leb}
 use Rattle.octets.proofs.Runs.{every-yes, every-not, every-end}
 use Rattle.image.specs.Image.{at_most}

@@ -1,7 +1,6 @@
 -- `image::place_of`: by the cases of the number.
 use Rattle.std.proofs.Common.{sym, ap}
 use Rattle.image.specs.Image.{place_of}
-use Rattle.image.proofs.Reading.{place_other}
 use native.Mathlib.Omega.{arith}
 use Rattle.image.proofs.place_of.Goals as goal
 

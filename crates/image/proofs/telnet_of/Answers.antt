@@ -1,7 +1,6 @@
 -- `image::telnet_of`: by the cases of the number.
 use Rattle.std.proofs.Common.{sym, ap}
 use Rattle.image.specs.Image.{telnet_of}
-use Rattle.image.proofs.Reading.{telnet-other}
 use native.Mathlib.Omega.{arith}
 use Rattle.image.proofs.telnet_of.Goals as goal
 

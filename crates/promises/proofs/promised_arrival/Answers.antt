@@ -1,15 +1,12 @@
 -- `promises::promised_arrival` meets its contract: it is the session's, whose three equations are the promise, and the types of the record's arrays say all
 -- that progress asks of a record.
-use Prim.Native.Nat.{ℕ}
 use native.Mathlib.Omega.{arith}
 use lib.ListN.{length}
 use mir.Syntax.{w8}
 use mir.Val.{Fits}
 use lib.ListN.{get_or}
-use Rattle.rules.specs.Lines.{judged, most_held}
+use Rattle.rules.specs.Lines.{judged}
 use Rattle.rules.specs.Demand3.{arrival}
-use Rattle.rules.specs.Answers.{most_owed}
-use Rattle.rules.specs.Setup.{ipv4_width}
 use Rattle.session.specs.Bounds.{Shaped}
 use Rattle.answers.proofs.Lengths.{octets-all}
 use Rattle.answers.proofs.Bounds.{progress}

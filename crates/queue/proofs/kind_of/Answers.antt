@@ -1,6 +1,5 @@
 -- By the cases of the number; where none of the eight fits, each test is false.
 use mathlib.Core.Path.{ap, sym, ◌∙◌}
-use borrow.Author.Tests.{ne_eqb}
 use Rattle.rules.specs.Octets.{choose}
 use Rattle.queue.specs.Kinds.{kind_of}
 use native.Mathlib.Omega.{arith}

@@ -1,7 +1,7 @@
 -- `records::unfinished_of` meets its contract: by whether the side's octets are read as lines.
 use mathlib.Core.Bool.{not}
 use mathlib.Core.Path.{◌≡◌, sym, ap, ◌∙◌}
-use mathlib.Core.Bool.{Bool, true, false}
+use mathlib.Core.Bool.{Bool}
 use borrow.Author.Tests.{not-true, not-false}
 use Rattle.rules.specs.declared.Layer.{Layer}
 use Rattle.places.specs.declared.Direction.{Direction}

@@ -4,7 +4,6 @@ use mathlib.Core.List.{List}
 use Prim.Native.Nat.{ℕ}
 use lib.ListN.{length}
 use native.Mathlib.Omega.{arith}
-use borrow.Author.Rules.{length_unmapped}
 use Rattle.rules.specs.Answers.{Side}
 use Rattle.rules.specs.Lines.{passed, most_held}
 use Rattle.rules.specs.Telnet.{unfinished}

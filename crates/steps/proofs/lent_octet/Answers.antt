@@ -1,7 +1,7 @@
 -- The lines are lent further, and the kinds put back behind the octet: `octet-over`.
 use mathlib.Core.Path.{◌≡◌, sym, ap, subst, ◌∙◌}
 use mathlib.Core.List.{List}
-use Prim.Native.Nat.{ℕ, ◌-◌}
+use Prim.Native.Nat.{ℕ}
 use lib.ListN.{length}
 use Rattle.rules.specs.declared.Fixed.{Fixed}
 use Rattle.records.specs.Sound.{side_if}

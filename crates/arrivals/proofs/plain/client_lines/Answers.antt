@@ -1,8 +1,6 @@
 use mathlib.Core.Path.{refl}
-use mathlib.Core.Bool.{false}
-use Prim.Native.Nat.{◌-◌}
 use native.Mathlib.Omega.{arith}
-use borrow.Author.Tests.{not-false, ltb-true}
+use borrow.Author.Tests.{not-false}
 use Rattle.arrivals.proofs.PlainLines.{said-none, said-then, said-so, said-inside}
 use Rattle.arrivals.proofs.plain.client_lines.Goals as goal
 

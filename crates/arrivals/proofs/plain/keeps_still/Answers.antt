@@ -2,8 +2,7 @@
 use mathlib.Core.Bool.{not}
 use mathlib.Core.Path.{◌≡◌, sym, ap, ◌∙◌}
 use mathlib.Core.Bool.{Bool, true, ◌||◌}
-use mathlib.Core.Logic.{⊎_elim}
-use borrow.Author.Tests.{not-true, not-false, eq-eqb}
+use borrow.Author.Tests.{not-true, eq-eqb}
 use Rattle.octets.proofs.Choices.{choose-true}
 use Rattle.arrivals.specs.PlainRuns.{is_plain_first, keeps_still}
 use Rattle.arrivals.proofs.Keeping.{either_true, keeps-not, keeps-behind}

@@ -1,5 +1,5 @@
 -- `image::ending::end_held` meets its contract: by the room for what is held and for an unfinished command.
-use Rattle.std.proofs.Common.{◌≡◌, ℕ, ◌+◌, ◌^◌, ◌<◌, ◌≤◌, List, ap, ◌∙◌, arith}
+use Rattle.std.proofs.Common.{◌≡◌, ℕ, ◌+◌, ◌≤◌, List, ap, ◌∙◌, arith}
 use Rattle.rules.specs.Answers.{Side}
 use Rattle.rules.specs.Telnet.{unfinished}
 use Rattle.places.specs.declared.Direction.{Direction}
