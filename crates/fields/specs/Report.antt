@@ -1,5 +1,5 @@
 -- "It writes a header with the entry count, then per entry .."
-use Rattle.std.specs.Prelude.{Bool, ◌&&◌, not, List, [], ◌∷◌, ◌++◌, ℕ, zero, suc, ◌+◌, ◌/◌, ◌%◌, eqb, ltb, get_or, take, drop}
+use Rattle.std.specs.Prelude.{Bool, ◌&&◌, not, List, [], ◌∷◌, ◌++◌, ℕ, zero, suc, ◌+◌, ◌/◌, ◌%◌, eqb, ltb, take, drop}
 use Rattle.rules.specs.Octets.{oct, lf, space, choose, is_empty, within, decimal}
 use Rattle.rules.specs.Answers.{answer_number}
 use Rattle.records.specs.declared.Session.{Session}

@@ -5,15 +5,14 @@ use mathlib.Core.List.{List, [], ◌∷◌}
 use Prim.Native.Nat.{ℕ, zero, suc, ◌+◌, ◌*◌, ◌<◌, ◌≤◌}
 use native.Mathlib.Omega.{arith}
 use lib.Dec.{eqb, leb, ltb}
-use lib.ListN.{length, get_or, take, drop}
+use lib.ListN.{length, take, drop}
 use lib.Seq.{drop-drop, get_or-take, length-take-le}
-use borrow.Author.Tests.{leb-true, eqb-true, ne_eqb, le-ltb, not-false}
+use borrow.Author.Tests.{leb-true, eqb-true, ne_eqb, le-ltb}
 use Rattle.rules.specs.Octets.{choose, within}
 use Rattle.rules.specs.Setup.{setup_size}
 use Rattle.octets.proofs.Ranges.{and_both}
-use Rattle.files.specs.declared.Verdict.{Verdict}
 use Rattle.files.specs.Contents.{Entry, pair_at, entry_of, entries, count, table_end, table_of, is_setup, good_entry, no_setups, good_table, bodies_length, longest_file, verdict, LongerSame}
-use Rattle.files.proofs.Tables.{entry_at, entries_next}
+use Rattle.files.proofs.Tables.{entry_at}
 use Rattle.files.proofs.Accepted.{right}
 
 -- ---- a table that is right says no more than the largest file has

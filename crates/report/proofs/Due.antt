@@ -5,13 +5,13 @@ use mathlib.Core.List.{List}
 use Prim.Native.Nat.{ℕ, ◌+◌, ◌-◌, ◌*◌, ◌<◌, ◌≤◌}
 use native.Mathlib.Omega.{arith}
 use lib.Dec.{eqb, leb, ltb}
-use lib.ListN.{length, get_or, take, drop, length-drop}
+use lib.ListN.{length, take, drop, length-drop}
 use lib.Seq.{length-take-le}
-use borrow.Author.Tests.{eq-eqb, ne_eqb, lt-ltb, le-ltb, le-leb, lt-leb, eqb-false, ltb-true, leb-true, leb-false, not-true, not-false}
+use borrow.Author.Tests.{eq-eqb, ne_eqb, lt-ltb, le-ltb, le-leb, lt-leb, eqb-false, ltb-true, leb-true, leb-false, not-true}
 use Rattle.octets.proofs.Ranges.{and_both}
 use Rattle.files.specs.declared.Verdict.{Verdict}
-use Rattle.files.specs.Contents.{entry_of, pair_at, count, verdict}
-use Rattle.files.proofs.Tables.{kind_at, length_at}
+use Rattle.files.specs.Contents.{pair_at, count, verdict}
+use Rattle.files.proofs.Tables.{length_at}
 use Rattle.files.proofs.Accepted.{Accepted, accepted, Right, entry-right, entry-within}
 use Rattle.report.specs.declared.Replay.{Replay}
 use Rattle.report.specs.Replays.{entry_at, is_accepted, is_due}

@@ -1,16 +1,15 @@
 -- How long a part is at most, and that a buffer of that size never lacks room.
-use mathlib.Core.Path.{◌≡◌, refl, sym, ap, ◌∙◌}
+use mathlib.Core.Path.{◌≡◌, refl, ap}
 use mathlib.Core.Bool.{Bool, true, false}
-use mathlib.Core.List.{List, [], ◌∷◌, ◌++◌}
+use mathlib.Core.List.{List, [], ◌∷◌}
 use mathlib.Core.Option.{Option, none, some}
-use Prim.Native.Nat.{ℕ, zero, suc, ◌+◌, ◌*◌, ◌/◌, ◌%◌, ◌<◌, ◌≤◌}
+use Prim.Native.Nat.{ℕ, zero, suc, ◌*◌, ◌/◌, ◌%◌, ◌<◌, ◌≤◌}
 use native.Mathlib.Omega.{arith}
 use lib.Dec.{eqb, leb}
 use lib.ListN.{length, take, drop, length-append}
 use borrow.Author.Tests.{le-leb, leb-true, eqb-true, eqb-false}
-use Rattle.rules.specs.Octets.{oct, choose, decimal}
+use Rattle.rules.specs.Octets.{oct, choose}
 use Rattle.rules.specs.Answers.{Side, side_of, fits, answer_number}
-use Rattle.rules.specs.Setup.{setup_answer}
 use Rattle.rules.specs.declared.Answer.{Answer}
 use Rattle.rules.specs.declared.Answer.TheVariants as a
 use Rattle.output.proofs.Decimal.{decimal-most}
@@ -24,7 +23,7 @@ use Rattle.octets.proofs.Ranges.{and_both}
 use Rattle.steps.proofs.Fits.{takes-fit}
 use Rattle.files.specs.declared.Verdict.{Verdict}
 use Rattle.files.specs.Contents.{count, verdict, verdict_number}
-use Rattle.fields.specs.Report.{Done, out_room, stands_as_itself, hex_glyph, shown, shown_all, field, entry_line, set_up, run_entry, done_by}
+use Rattle.fields.specs.Report.{Done, out_room, stands_as_itself, hex_glyph, shown, shown_all, field, set_up, run_entry, done_by}
 use Rattle.fields.proofs.Fields.{line-of-parts, line-length, header-length, refused-length}
 use Rattle.files.proofs.Accepted.{accepted}
 use Rattle.report.specs.declared.PartState.{PartState}
@@ -32,9 +31,9 @@ use Rattle.report.specs.declared.Replay.{Replay}
 use Rattle.report.specs.Replays.{part_of, first_text_by, first_text, first_part, no_replay, first_replay, entry_at, is_due, done_at, entry_text, next_text, next_replay, next_part}
 use Rattle.report.specs.Whole.{Parts, most_part, PartMost, RoomEnough, Reached, NextWritten, AllWritten}
 use Rattle.report.specs.Whole as parts
-use Rattle.report.proofs.Due.{Due, due}
+use Rattle.report.proofs.Due.{due}
 use Rattle.report.proofs.Runs.{told-arrived, told-ended}
-use Rattle.report.proofs.Parts.{due-text, due-part, over}
+use Rattle.report.proofs.Parts.{due-part}
 use Rattle.report.proofs.Standing.{Stands, is-due, reached-stands, part-stands, after-stands, next-wrote}
 use Rattle.report.proofs.Whole.{after_less}
 

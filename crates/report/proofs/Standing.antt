@@ -1,30 +1,29 @@
 -- What a call that wrote a part shows, and what holds of every replay that calls lead to.
 use mathlib.Core.Path.{◌≡◌, refl, sym, ap, ◌∙◌}
 use mathlib.Core.Bool.{Bool, true, false}
-use mathlib.Core.List.{List, [], ◌∷◌, ◌++◌, append-nil, append_assoc}
-use Prim.Native.Nat.{ℕ, zero, suc, ◌+◌, ◌-◌, ◌*◌, ◌<◌, ◌≤◌}
+use mathlib.Core.List.{List, [], ◌∷◌, ◌++◌, append-nil}
+use Prim.Native.Nat.{ℕ, suc, ◌+◌, ◌-◌, ◌*◌, ◌≤◌}
 use native.Mathlib.Numerals.{add-one}
-use native.Mathlib.Nat.{add_assoc}
 use native.Mathlib.Omega.{arith}
-use lib.Dec.{eqb, leb, ltb}
+use lib.Dec.{eqb, leb}
 use lib.ListN.{length, take, drop}
 use lib.Seq.{drop-drop}
-use borrow.Author.Tests.{eq-eqb, ne_eqb, eqb-true, eqb-false, lt-ltb, le-leb, lt-leb, leb-true, leb-false}
+use borrow.Author.Tests.{ne_eqb, lt-ltb, le-leb, leb-true}
 use Rattle.rules.specs.Octets.{oct, choose}
 use Rattle.output.specs.Buffer.{put_at}
 use Rattle.output.proofs.Placing.{take-put-at}
 use Rattle.records.specs.declared.Session.{Session}
 use Rattle.files.specs.declared.Verdict.{Verdict}
-use Rattle.files.specs.Contents.{Entry, entry_of, entries, count, table_end, table_of, bodies_length, verdict}
-use Rattle.fields.specs.Report.{Done, entry_line, entry_lines}
+use Rattle.files.specs.Contents.{Entry, entries, count, table_of, bodies_length, verdict}
+use Rattle.fields.specs.Report.{entry_line, entry_lines}
 use Rattle.files.proofs.Tables.{entries_next}
-use Rattle.files.proofs.Accepted.{Accepted, accepted}
+use Rattle.files.proofs.Accepted.{accepted}
 use Rattle.report.specs.declared.PartState.{PartState}
 use Rattle.report.specs.declared.Replay.{Replay}
 use Rattle.report.specs.declared.Part.{Part}
 use Rattle.report.specs.Replays.{part_of, no_replay, first_replay_by, first_replay, first_text, first_part, entry_at, is_accepted, is_due, done_at, entry_text, next_text, left_after, next_replay, next_part}
 use Rattle.report.specs.Whole.{Reached, started, called}
-use Rattle.report.proofs.Due.{Due, due}
+use Rattle.report.proofs.Due.{due}
 use Rattle.report.proofs.Parts.{due-text, due-part}
 
 -- ---- a part that was written

@@ -1,23 +1,21 @@
 -- The parts joined are the report, and they are few.
 use mathlib.Core.Path.{◌≡◌, refl, sym, ap, ◌∙◌}
 use mathlib.Core.Bool.{Bool, true, false}
-use mathlib.Core.List.{List, [], ◌∷◌, ◌++◌, append-nil, append_assoc, flatten}
-use Prim.Native.Nat.{ℕ, ◌+◌, ◌-◌, ◌*◌, ◌≤◌}
+use mathlib.Core.List.{List, ◌++◌, append-nil, append_assoc, flatten}
+use Prim.Native.Nat.{ℕ, ◌+◌, ◌-◌, ◌≤◌}
 use native.Mathlib.Omega.{arith}
 use lib.Dec.{eqb}
-use lib.ListN.{length, take, drop}
+use lib.ListN.{length}
 use Rattle.rules.specs.Octets.{choose}
-use Rattle.output.specs.Buffer.{put_at}
 use Rattle.files.specs.declared.Verdict.{Verdict}
-use Rattle.files.specs.Contents.{count, table_end, table_of, verdict, verdict_number}
+use Rattle.files.specs.Contents.{table_of, verdict, verdict_number}
 use Rattle.fields.specs.Report.{accepted_report, refused_line, report_by, report}
 use Rattle.files.proofs.Accepted.{accepted}
-use Rattle.report.specs.declared.PartState.{PartState}
 use Rattle.report.specs.declared.Replay.{Replay}
 use Rattle.report.specs.Replays.{no_replay, first_text_by, first_text, first_replay_by, first_replay, first_part, done_at, next_text, left_after, next_replay, next_part}
 use Rattle.report.specs.Whole.{Parts, no_parts, more, WholeReport, FewParts}
 use Rattle.report.proofs.Due.{due}
-use Rattle.report.proofs.Standing.{Wrote, first-wrote, next-wrote, front-text, Stands, after-stands, part-stands, part-replay, rest_text, rest-none, rest-next}
+use Rattle.report.proofs.Standing.{first-wrote, next-wrote, front-text, Stands, after-stands, part-stands, part-replay, rest_text, rest-none, rest-next}
 
 -- ---- the parts of the entries
 

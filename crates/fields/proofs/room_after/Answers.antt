@@ -1,5 +1,4 @@
 use mathlib.Core.Path.{sym, ◌∙◌}
-use Prim.Native.Nat.{◌-◌}
 use native.Mathlib.Omega.{arith}
 use Rattle.fields.proofs.Fields.{field-empty, field-shown, room-full, room-left, shown-full, shown-taken, shown-done}
 use Rattle.fields.proofs.room_after.Goals as goal

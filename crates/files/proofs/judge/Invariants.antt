@@ -1,6 +1,6 @@
 -- `files::judge` meets its contract. The invariant: the entries left, from `at` on, and the total so far decide of the file.
 use mathlib.Core.Path.{◌≡◌}
-use Prim.Native.Nat.{◌+◌, ◌-◌, ◌*◌, ◌≤◌}
+use Prim.Native.Nat.{◌+◌, ◌*◌, ◌≤◌}
 use lib.ListN.{length, drop}
 use Rattle.files.specs.Contents.{entries, verdict}
 use Rattle.files.proofs.Tables.{judged}
