@@ -5,8 +5,10 @@ ghost use Rattle.std.specs.Prelude.{◌≡◌, List, [], ◌∷◌, ℕ, ◌+◌
 ghost use Rattle.std.proofs.Math.Option.{none, some};
 ghost use Rattle.std.proofs.Math.Seq.{paste};
 ghost use Rattle.rules.specs.Octets.{choose, colon, dot, parts};
-ghost use Rattle.rules.specs.Address.{hex_digit, hex_digit_value, group as group_of, both, octet_number, dotted as dotted_of};
-ghost use Rattle.rules.specs.Address.{last_group, groups as groups_of, half as half_of, halves as halves_of, eight_groups};
+ghost use Rattle.rules.specs.Address.{hex_digit, hex_digit_value, group as group_of, both, octet_number};
+ghost use Rattle.rules.specs.Address.{dotted as dotted_of};
+ghost use Rattle.rules.specs.Address.{last_group, groups as groups_of, half as half_of, halves as halves_of};
+ghost use Rattle.rules.specs.Address.{eight_groups};
 ghost use Rattle.rules.specs.Address.{filled as filled_of, ipv6 as ipv6_of};
 ghost use Rattle.address.specs.Text.{ipv6_read, group_gives, octets_of, Reads, halves_at};
 

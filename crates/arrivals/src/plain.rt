@@ -82,7 +82,8 @@ fn may_end(octets: &[u8], j: usize, before: usize, line: &[u8], room: usize) -> 
     requires { before ≡ 0 → every (is_not iac) line.now ≡ true }
     ensures { let l = octets.now in
         let text = line.now in
-        (result ≡ true → (j < length l) × (get_or l j 0 ≡ lf) × (length text < room) × (every (is_not iac) text ≡ true)) }
+        (result ≡ true
+        → (j < length l) × (get_or l j 0 ≡ lf) × (length text < room) × (every (is_not iac) text ≡ true)) }
 {
     if octets.len() <= j {
         return false;

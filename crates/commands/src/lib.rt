@@ -4,7 +4,8 @@
 ghost use Rattle.std.specs.Prelude.{◌≡◌, true, ◌<◌, eqb, length};
 ghost use Rattle.rules.specs.Octets.{choose, every, digit, value};
 ghost use Rattle.rules.specs.Lines.{word as word_of, starts_auth};
-ghost use Rattle.rules.specs.Commands.{command_word, epsv_command, epsv_argument, eprt_command, eprt_argument, algs_command};
+ghost use Rattle.rules.specs.Commands.{command_word, epsv_command, epsv_argument, eprt_command, eprt_argument};
+ghost use Rattle.rules.specs.Commands.{algs_command};
 ghost use Rattle.rules.specs.Commands.{algs_argument, command as command_of};
 ghost use Rattle.commands.specs.Plain.{is_plain};
 

@@ -9,7 +9,8 @@ ghost use Rattle.records.specs.Sound.{refusal_of, refusal_by, Counted};
 ghost use Rattle.setups.specs.Setups.{dead_session};
 ghost use Rattle.image.specs.Image.{mark_of as bit_of, place_number, telnet_number, four_octets, capped as capped_at};
 ghost use Rattle.image.specs.Image.{marks_in, marks_from, numbers_by, numbers_from, arrays_of, image_of, place_of};
-ghost use Rattle.image.specs.Image.{telnet_of, count_at, counts_at, control_in, fields_in, at_most, is_image, session_of};
+ghost use Rattle.image.specs.Image.{telnet_of, count_at, counts_at, control_in, fields_in};
+ghost use Rattle.image.specs.Image.{at_most, is_image, session_of};
 
 use output::{ipv4_from, ipv6_from, line_from, put};
 use places::{Direction, Place};

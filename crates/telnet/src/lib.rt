@@ -2,7 +2,8 @@
 #![tactic(auto)]
 
 ghost use Rattle.std.specs.Prelude.{◌≡◌, ◌≤◌, length};
-ghost use Rattle.rules.specs.Telnet.{after_iac, telnet_octet, layer_octet, answer_of, command_of, unfinished, removed_after};
+ghost use Rattle.rules.specs.Telnet.{after_iac, telnet_octet, layer_octet, answer_of, command_of, unfinished};
+ghost use Rattle.rules.specs.Telnet.{removed_after};
 ghost use Rattle.rules.specs.Telnet.{is_clear, cleared as cleared_of};
 ghost use Rattle.output.specs.Buffer.{Put};
 
