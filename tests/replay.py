@@ -79,6 +79,10 @@ def command_checks(folder):
     wrong.write_text("setup ::1 192.0.2.31 198.51.100.7\nclint end\n")
     yield "./replay of a session file", run(COMMAND, SAMPLES / "auth.session")[:2] == (0, report("auth"))
     yield "./replay of a text, which has nothing to prove any more", run(COMMAND, SAMPLES / "eprt.txt") == (0, report("eprt"), "")
+    odd = os.fsencode(folder) + b"/n\xffme.session"
+    shutil.copy(os.fsencode(SAMPLES / "auth.session"), odd)
+    yield "./replay of a name that is not UTF-8", run(COMMAND, odd)[:2] == (0, report("auth"))
+    yield "./replay of such a name that is not there", run(COMMAND, odd + b"x")[:2] == (1, b"")
     status, written, said = run(COMMAND)
     yield "./replay without a name", (status, written) == (0, report("epsv")) and "samples/epsv.session" in said
     for name, words in ((folder / "none", "No such file"), ("", "No such file"), (wrong, "wrong.txt:2: unknown word clint"), (folder / "none.txt", "none.txt")):
