@@ -1,4 +1,4 @@
--- What the parts are together: whole-report, part-most, room-enough, goes-on, few-parts and all-written of proofs/ show these claims.
+-- What the parts are together: whole-report, part-most, room-enough, goes_on, few-parts and all-written of proofs/ show these claims.
 use Rattle.std.specs.Prelude.{◌≡◌, ℕ, ◌≤◌, length, take}
 use mathlib.Core.List.{List, [], ◌∷◌, ◌++◌, flatten}
 use Rattle.output.specs.Buffer.{put_at}
