@@ -2,7 +2,6 @@
 use Rattle.std.proofs.Common.{◌^◌, ◌<◌, arith}
 use Rattle.counts.proofs.Wrapping.{other-direction, server-offset, client-offset}
 use Rattle.counts.proofs.offset.Goals as goal
-use Rattle.counts.proofs.offset.Goals.{then-direction-eq1, else-direction-eq1}
 
 pub returns-then-direction-ge2 : goal.returns-then-direction-ge2
 returns-then-direction-ge2 c = other-direction c.args.session c.args.direction c.if-direction-ge2.true
@@ -12,8 +11,4 @@ returns c =
     let a = c.args in
     let r = c.wrapping_sub_u32.result in
     let small : r < 2 ^ 32 = omega arith in
-    elim c.if-direction-eq1.branch [
-      | then-direction-eq1 w ↦ server-offset a.session a.direction small c.wrapping_sub_u32.ensures.value w.if-direction-eq1.true w.counts-is
-      | else-direction-eq1 w ↦ client-offset a.session a.direction small c.wrapping_sub_u32.ensures.value c.if-direction-ge2.false
-          w.if-direction-eq1.false w.counts-is
-    ]
+    grind (arith, server-offset a.session a.direction small c.wrapping_sub_u32.ensures.value, client-offset a.session a.direction small c.wrapping_sub_u32.ensures.value c.if-direction-ge2.false)
