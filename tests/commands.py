@@ -8,7 +8,7 @@ import subprocess
 import sys
 import tempfile
 
-from usage import arguments
+from usage import arguments, counted
 
 ROOT = pathlib.Path(__file__).resolve().parent.parent
 # a module of the tests, and no command
@@ -53,12 +53,7 @@ def main():
     programs = arguments(__doc__, 0, 9)
     with tempfile.TemporaryDirectory() as folder:
         results = list(checks(pathlib.Path(folder), programs))
-    for what, good in results:
-        if not good:
-            print(f"FAILED: {what}")
-    failed = sum(not good for _, good in results)
-    print(f"{len(results) - failed} passed, {failed} failed")
-    return failed > 0
+    return counted(results)
 
 
 if __name__ == "__main__":

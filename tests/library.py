@@ -11,7 +11,7 @@ import subprocess
 import sys
 import tempfile
 
-from usage import arguments
+from usage import arguments, counted
 
 ROOT = pathlib.Path(__file__).resolve().parent.parent
 HEADER = ROOT / "relay" / "fashlemor.h"
@@ -92,12 +92,7 @@ def main():
     [library] = arguments(__doc__, 1, 1)
     with tempfile.TemporaryDirectory() as folder:
         checks = [*library_checks(library), *command_checks(pathlib.Path(folder))]
-    for name, holds in checks:
-        if not holds:
-            print(f"FAILED: {name}")
-    good = sum(bool(holds) for _, holds in checks)
-    print(f"{good} passed, {len(checks) - good} failed")
-    return good != len(checks)
+    return counted(checks)
 
 
 if __name__ == "__main__":

@@ -14,7 +14,7 @@ import subprocess
 import sys
 import tempfile
 
-from usage import arguments
+from usage import arguments, counted
 
 ROOT = pathlib.Path(__file__).resolve().parent.parent
 COMMAND = ROOT / "prefix"
@@ -240,12 +240,7 @@ def main():
     program, seed, count = arguments(__doc__, 3, 3)
     with tempfile.TemporaryDirectory() as folder:
         checks = [*program_checks(program, int(seed), int(count)), *command_checks(), *build_checks(program, pathlib.Path(folder))]
-    for name, holds in checks:
-        if not holds:
-            print(f"FAILED: {name}")
-    good = sum(bool(holds) for _, holds in checks)
-    print(f"{good} passed, {len(checks) - good} failed")
-    return good != len(checks)
+    return counted(checks)
 
 
 if __name__ == "__main__":

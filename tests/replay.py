@@ -10,7 +10,7 @@ import subprocess
 import sys
 import tempfile
 
-from usage import arguments
+from usage import arguments, counted
 
 ROOT = pathlib.Path(__file__).resolve().parent.parent
 SAMPLES = ROOT / "samples"
@@ -198,12 +198,7 @@ def main():
     with tempfile.TemporaryDirectory() as folder:
         place = pathlib.Path(folder)
         checks = [*program_checks(program, place), *command_checks(place), *input_checks(), *hint_checks(place), *build_checks(place, program)]
-    for name, holds in checks:
-        if not holds:
-            print(f"FAILED: {name}")
-    good = sum(holds for _, holds in checks)
-    print(f"{good} passed, {len(checks) - good} failed")
-    return good != len(checks)
+    return counted(checks)
 
 
 if __name__ == "__main__":

@@ -12,3 +12,12 @@ def arguments(told, least=0, most=0, options=()):
         print(told.strip(), file=sys.stderr)
         sys.exit(2)
     return words
+
+
+def counted(checks):
+    """Tells each check that does not hold, and in the last line how many hold and how many do not; whether one does not."""
+    wrong = [name for name, holds in checks if not holds]
+    for name in wrong:
+        print(f"FAILED: {name}")
+    print(f"{len(checks) - len(wrong)} passed, {len(wrong)} failed")
+    return bool(wrong)
