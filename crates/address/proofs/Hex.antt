@@ -1,8 +1,8 @@
 -- Hex digits by the range that they stand in, and the groups that they write.
-use mathlib.Core.Path.{◌≡◌, refl, sym}
+use mathlib.Core.Path.{◌≡◌, refl, ap}
 use mathlib.Core.Bool.{Bool, true, false, ◌||◌, and-false}
 use mathlib.Core.List.{List, [], ◌∷◌}
-use mathlib.Core.Option.{none, some}
+use Rattle.std.specs.Prelude.{Option, None, Some}
 use Prim.Native.Nat.{ℕ, ◌+◌, ◌-◌, ◌*◌, ◌/◌, ◌%◌, ◌^◌, ◌<◌, ◌≤◌}
 use native.Mathlib.Nat.{pow-suc, pow-le-pow_right}
 use native.Mathlib.Numerals.{add-one}
@@ -24,18 +24,21 @@ other : (x : ℕ) → (97 ≤ x → x ≤ 122 → ⊥) → capital x ≡ x
 unfolding capital choose
 other x out = rw (within-not 97 122 x out)
 
-pub hex-digit : (x : ℕ) → 48 ≤ x → x ≤ 57 → choose (hex_digit x) (hex_digit_value x) 16 ≡ x - 48
+pub hex-digit : (x : ℕ) → 48 ≤ x → x ≤ 57 → choose (hex_digit x) (Some (hex_digit_value x)) None ≡ Some (x - 48)
 unfolding hex_digit hex_digit_value choose
 hex-digit x a b = rw (is_within 48 57 x a b)
 
-pub hex-capital : (x : ℕ) → 65 ≤ x → x ≤ 70 → choose (hex_digit x) (hex_digit_value x) 16 ≡ x - 55
+pub hex-capital : (x : ℕ) → 65 ≤ x → x ≤ 70 → choose (hex_digit x) (Some (hex_digit_value x)) None ≡ Some (x - 65 + 10)
 unfolding hex_digit hex_digit_value choose
-hex-capital x a b = rw (within-not 48 57 x (λ p q. omega arith), other x (λ p q. omega arith), is_within 65 70 x a b)
+hex-capital x a b =
+    let n : x - 55 ≡ x - 65 + 10 = omega arith in
+    rw (within-not 48 57 x (λ p q. omega arith), other x (λ p q. omega arith), is_within 65 70 x a b) (ap Some n)
 
-pub hex-small : (x : ℕ) → 97 ≤ x → x ≤ 102 → choose (hex_digit x) (hex_digit_value x) 16 ≡ x - 87
+pub hex-small : (x : ℕ) → 97 ≤ x → x ≤ 102 → choose (hex_digit x) (Some (hex_digit_value x)) None ≡ Some (x - 97 + 10)
 unfolding hex_digit hex_digit_value choose
 hex-small x a b =
-    rw (within-not 48 57 x (λ p q. omega arith), small x (omega arith) (omega arith), is_within 65 70 (x - 32) (omega arith) (omega arith)) (omega arith)
+    let n : x - 32 - 55 ≡ x - 97 + 10 = omega arith in
+    rw (within-not 48 57 x (λ p q. omega arith), small x (omega arith) (omega arith), is_within 65 70 (x - 32) (omega arith) (omega arith)) (ap Some n)
 
 capital-out : (x : ℕ) (p q : Bool) → leb 97 x ≡ p → leb x 122 ≡ q → (65 ≤ x → x ≤ 70 → ⊥) → (97 ≤ x → x ≤ 102 → ⊥) → 65 ≤ capital x → capital x ≤ 70 → ⊥
 capital-out x true true p q b c l h =
@@ -49,7 +52,7 @@ capital-out x false q' p q b c l h =
     let e : capital x ≡ x = other x (λ m n. omega (arith, leb-false 97 x p)) in
     b (omega arith) (omega arith)
 
-pub hex-none : (x : ℕ) → (48 ≤ x → x ≤ 57 → ⊥) → (65 ≤ x → x ≤ 70 → ⊥) → (97 ≤ x → x ≤ 102 → ⊥) → choose (hex_digit x) (hex_digit_value x) 16 ≡ 16
+pub hex-none : (x : ℕ) → (48 ≤ x → x ≤ 57 → ⊥) → (65 ≤ x → x ≤ 70 → ⊥) → (97 ≤ x → x ≤ 102 → ⊥) → choose (hex_digit x) (Some (hex_digit_value x)) None ≡ None
 unfolding hex_digit choose
 hex-none x a b c = rw (within-not 48 57 x a, within-not 65 70 (capital x) (capital-out x (leb 97 x) (leb x 122) refl refl b c))
 
@@ -64,23 +67,23 @@ pub hex-below : (x : ℕ) → hex_digit x ≡ true → hex_digit_value x < 16
 unfolding hex_digit hex_digit_value
 hex-below x e = below_by x (digit x) (within 65 70 (capital x)) refl refl e
 
--- what the value of an octet says: one below 16 is a hex digit's
-yes-by : (x r : ℕ) (b : Bool) → hex_digit x ≡ b → r ≡ choose b (hex_digit_value x) 16 → r < 16 → (hex_digit x ≡ true) × (hex_digit_value x ≡ r)
+-- what the value that was read of an octet says
+yes-by : (x v : ℕ) (b : Bool) → hex_digit x ≡ b → Some v ≡ choose b (Some (hex_digit_value x)) None → (hex_digit x ≡ true) × (hex_digit_value x ≡ v)
 unfolding choose
-yes-by x r true e p h = (e, sym p)
-yes-by x r false e p h = absurd (omega arith)
+yes-by x v true e p = (e, cc)
+yes-by x v false e p = cc
 
-not-digit-by : (x r : ℕ) (b : Bool) → hex_digit x ≡ b → r ≡ choose b (hex_digit_value x) 16 → 16 ≤ r → hex_digit x ≡ false
+no-by : (x : ℕ) (b : Bool) → hex_digit x ≡ b → ◌≡◌ {A = Option ℕ} None (choose b (Some (hex_digit_value x)) None) → hex_digit x ≡ false
 unfolding choose
-not-digit-by x r true e p h = absurd (omega (arith, hex-below x e))
-not-digit-by x r false e p h = e
+no-by x true e p = cc
+no-by x false e p = e
 
-module _ (x r : ℕ) (e : r ≡ choose (hex_digit x) (hex_digit_value x) 16) where
-  pub digit-yes : r < 16 → (hex_digit x ≡ true) × (hex_digit_value x ≡ r)
-  digit-yes h = yes-by x r (hex_digit x) refl e h
+module _ (x : ℕ) where
+  pub digit-yes : {v : ℕ} → Some v ≡ choose (hex_digit x) (Some (hex_digit_value x)) None → (hex_digit x ≡ true) × (hex_digit_value x ≡ v)
+  digit-yes {v} e = yes-by x v (hex_digit x) refl e
 
-  pub digit_not : 16 ≤ r → hex_digit x ≡ false
-  digit_not h = not-digit-by x r (hex_digit x) refl e h
+  pub digit_not : ◌≡◌ {A = Option ℕ} None (choose (hex_digit x) (Some (hex_digit_value x)) None) → hex_digit x ≡ false
+  digit_not e = no-by x (hex_digit x) refl e
 
 -- the number that n hex digits write
 pub more-digits : (v r n : ℕ) → v < 16 ^ n → r < 16 → v * 16 + r < 16 ^ (n + 1)
@@ -96,14 +99,14 @@ module _ (s : List ℕ) (i : ℕ) (h : i < length s) where
   hex_from-at v = rw (add-one, drop-cons s i 0 h)
 
 -- a group, by its tests
-pub group-size : (g : List ℕ) → within 1 4 (length g) ≡ false → group g ≡ none
+pub group-size : (g : List ℕ) → within 1 4 (length g) ≡ false → group g ≡ None
 unfolding group choose
 group-size g e = rw e
 
-pub group-octets : (g : List ℕ) → every hex_digit g ≡ false → group g ≡ none
+pub group-octets : (g : List ℕ) → every hex_digit g ≡ false → group g ≡ None
 unfolding group choose
 group-octets g e = rw (e, and-false (within 1 4 (length g)))
 
-pub group-read : (g : List ℕ) (v : ℕ) → within 1 4 (length g) ≡ true → every hex_digit g ≡ true → hex_from 0 g ≡ v → group g ≡ some (v / 256 ∷ v % 256 ∷ [])
+pub group-read : (g : List ℕ) (v : ℕ) → within 1 4 (length g) ≡ true → every hex_digit g ≡ true → hex_from 0 g ≡ v → group g ≡ Some (v / 256 ∷ v % 256 ∷ [])
 unfolding group choose
 group-read g v a b e = rw (a, b, e)

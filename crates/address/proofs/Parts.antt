@@ -1,14 +1,18 @@
 -- The parts of a text between octets d, by the run of octets that are not d.
-use mathlib.Core.Path.{◌≡◌, refl, ◌∙◌}
+use mathlib.Core.Path.{◌≡◌, refl, sym, ◌∙◌}
 use mathlib.Core.Bool.{Bool, true, false, not}
 use mathlib.Core.List.{List, [], ◌∷◌}
-use Prim.Native.Nat.{ℕ, suc, ◌+◌, ◌-◌, ◌<◌, ◌≤◌}
+use Prim.Native.Nat.{ℕ, suc, ◌+◌, ◌<◌, ◌≤◌}
 use native.Mathlib.Numerals.{add-one}
 use native.Mathlib.Omega.{arith}
-use borrow.Author.Tests.{eq-eqb, ne_eqb}
-use lib.Dec.{eqb}
-use lib.ListN.{length, get_or, take, drop, length-drop}
-use lib.Seq.{drop-cons, drop-drop}
+use borrow.Author.Tests.{ltb-true, ltb-false}
+use lib.Dec.{eqb, ltb}
+use lib.ListN.{length, take, drop}
+use mathlib.Core.Bool.{cond}
+use Rattle.std.specs.List as library
+use Rattle.std.specs.List.{slice_split, count_by, position, position_or_len}
+use Rattle.std.specs.Prelude.{Option, None, Some}
+use Rattle.std.proofs.lemmas.List.Splits.{length-slice_split}
 use Rattle.rules.specs.Octets.{choose, is_not, run, onto_first, parts}
 
 -- one d at least: what stands before the first, and the parts of what follows it
@@ -35,18 +39,6 @@ unfolding parts run
 parts_last d [] h = refl
 parts_last d (x ∷ s) h = last-by d x s (run (is_not d) s) (eqb x d) (parts_last d s) h
 
--- the same from i on, where e is the position of the first d there
-module _ (d : ℕ) (s : List ℕ) (i e : ℕ) (at : e ≡ i + run (is_not d) (drop i s)) where
-  pub part_at : e < length s → parts d (drop i s) ≡ take (e - i) (drop i s) ∷ parts d (drop (e + 1) s)
-  part_at h =
-      let n : e - i ≡ run (is_not d) (drop i s) = omega arith in
-      let m : run (is_not d) (drop i s) < length (drop i s) = simp length-drop (omega arith) in
-      let next : i + suc (run (is_not d) (drop i s)) ≡ e + 1 = omega arith in
-      parts-found d (drop i s) m ∙ rw (drop-drop, n, next)
-
-  pub part_end : length s ≤ e → parts d (drop i s) ≡ drop i s ∷ []
-  part_end h = parts_last d (drop i s) (simp length-drop (omega arith))
-
 -- there is one part at least, and one more for each d
 onto-length : (x : ℕ) (ps : List (List ℕ)) → 0 < length ps → length (onto_first x ps) ≡ length ps
 unfolding onto_first
@@ -63,11 +55,48 @@ unfolding parts
 parts-some d [] = omega arith
 parts-some d (x ∷ s) = some-by x (parts d s) (eqb x d) (parts-some d s)
 
-module _ (d : ℕ) (s : List ℕ) (i : ℕ) (h : i < length s) where
-  pub one-part-more : get_or s i 0 ≡ d → length (parts d (drop i s)) ≡ suc (length (parts d (drop (i + 1) s)))
-  unfolding parts choose
-  one-part-more e = rw (add-one, drop-cons s i 0 h, eq-eqb (get_or s i 0) d e)
+-- the parts are those that the library splits a list into
+split-by : (x : ℕ) (ps : List (List ℕ)) (b : Bool) → choose b ([] ∷ ps) (onto_first x ps) ≡ cond b ([] ∷ ps) (library.onto_first x ps)
+unfolding choose onto_first
+split-by x ps true = refl
+split-by x [] false = refl
+split-by x (p ∷ ps) false = refl
 
-  pub same_parts : (get_or s i 0 ≡ d → ⊥) → length (parts d (drop i s)) ≡ length (parts d (drop (i + 1) s))
-  unfolding parts choose
-  same_parts e = rw (add-one, drop-cons s i 0 h, ne_eqb (get_or s i 0) d e, onto-length (get_or s i 0) (parts d (drop (suc i) s)) (parts-some d (drop (suc i) s)))
+pub parts-split : (d : ℕ) (s : List ℕ) → parts d s ≡ slice_split (λ y. eqb y d) s
+unfolding parts
+parts-split d [] = refl
+parts-split d (x ∷ s) = rw (parts-split d s) (split-by x (slice_split (λ y. eqb y d) s) (eqb x d))
+
+pub parts-count : (d : ℕ) (s : List ℕ) → length (parts d s) ≡ count_by (λ y. eqb y d) s + 1
+parts-count d s = rw (parts-split d s) (length-slice_split (λ y. eqb y d) s)
+
+-- the parts by the place of the first d
+run-by : (m n : ℕ) (b : Bool) → m ≡ n → cond (not b) (1 + m) 0 ≡ choose (not b) (suc n) 0
+unfolding choose
+run-by m n true e = refl
+run-by m n false e = omega arith
+
+position-run : (d : ℕ) (s : List ℕ) → position_or_len (λ y. eqb y d) s ≡ run (is_not d) s
+unfolding run
+position-run d [] = refl
+position-run d (x ∷ s) = run-by _ _ (eqb x d) (position-run d s)
+
+position-test : (m k n : ℕ) (b : Bool) → ltb m k ≡ b → cond b (Some m) None ≡ Some n → (m ≡ n) × (n < k)
+position-test m k n true e h = let same : m ≡ n = cc in (same, omega (arith, ltb-true m k e))
+position-test m k n false e h = cc
+
+position-all : (m k : ℕ) (b : Bool) → ltb m k ≡ b → ◌≡◌ {A = Option ℕ} (cond b (Some m) None) None → k ≤ m
+position-all m k true e h = cc
+position-all m k false e h = ltb-false m k e
+
+pub position-in : (d : ℕ) (s : List ℕ) (n : ℕ) → position (λ y. eqb y d) s ≡ Some n → n < length s
+position-in d s n h = (position-test _ (length s) n _ refl h).1
+
+pub position-found : (d : ℕ) (s : List ℕ) (n : ℕ) → position (λ y. eqb y d) s ≡ Some n → parts d s ≡ take n s ∷ parts d (drop (n + 1) s)
+position-found d s n h =
+    let at = position-test _ (length s) n _ refl h in
+    let e : run (is_not d) s ≡ n = sym (position-run d s) ∙ at.0 in
+    parts-found d s (omega (arith, at.1)) ∙ rw (e, add-one)
+
+pub position-none : (d : ℕ) (s : List ℕ) → position (λ y. eqb y d) s ≡ None → parts d s ≡ s ∷ []
+position-none d s h = parts_last d s (omega (arith, position-run d s, position-all _ (length s) _ refl h))

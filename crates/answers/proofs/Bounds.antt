@@ -3,7 +3,7 @@ use mathlib.Core.Path.{◌≡◌, refl, sym, ap, ◌∙◌}
 use mathlib.Core.Bool.{Bool, true, false, ◌||◌, not, true≢false}
 use mathlib.Core.List.{List, [], ◌∷◌, ◌++◌}
 use mathlib.Core.Logic.{◌≢◌}
-use mathlib.Core.Option.{Option, none, some}
+use Rattle.std.specs.Prelude.{Option, None, Some}
 use Prim.Native.Nat.{ℕ, zero, suc, ◌+◌, ◌*◌, ◌≤◌}
 use native.Mathlib.Omega.{arith}
 use lib.Dec.{eqb}
@@ -39,7 +39,6 @@ use Rattle.rules.specs.declared.PassiveReply.{PassiveReply}
 use Rattle.places.specs.declared.Place.{Place}
 use Rattle.places.specs.declared.Direction.{Direction}
 use Rattle.gives.specs.declared.Gives.{Gives}
-use Rattle.queue.specs.declared.Owes.{Owes}
 use Rattle.upstream.specs.declared.ClientEffect.{ClientEffect}
 use Rattle.downstream.specs.declared.ServerEffect.{ServerEffect}
 use Rattle.queue.specs.Kinds.{queue_of, head_of, answers_at_head}
@@ -149,9 +148,9 @@ module _ (f : Fixed) (size : length f.mapped ≡ ipv4_width) (octets : every is_
   unfolding gives_text
   extended-line p small = record { most = omega (arith, passive-line p small) }
 
-  passive-reply-line : (r : PassiveReply) → SmallReply r → Line (passive_effect f r)
+  passive-reply-line : (r : Option PassiveReply) → SmallReply r → Line (passive_effect f r)
   unfolding passive_effect
-  passive-reply-line r (named a b c d p small) = either Line _ _ _ refused-line (extended-line p small)
+  passive-reply-line r (named n small) = either Line _ _ _ refused-line (extended-line n.port small)
   passive-reply-line r unreadable = held-line
 
   kind-line : (k : Kind) (c : List ℕ) → Line (kind_effect f k c)
@@ -161,12 +160,12 @@ module _ (f : Fixed) (size : length f.mapped ≡ ipv4_width) (octets : every is_
   kind-line (Kind.Own a) c = held-line
   kind-line Kind.Auth c = held-line
 
-  head-line : (o : Owes) (c : List ℕ) → Line (head_effect f o c)
+  head-line : (o : Option Kind) (c : List ℕ) → Line (head_effect f o c)
   unfolding head_effect
-  head-line Owes.Nothing c = held-line
-  head-line (Owes.One k) c = kind-line k c
+  head-line None c = held-line
+  head-line (Some k) c = kind-line k c
 
-  whole-line : (r : ReplyLine) (u : ℕ) (o : Owes) (c : List ℕ) → Line (line_gives f r u o c)
+  whole-line : (r : ReplyLine) (u : ℕ) (o : Option Kind) (c : List ℕ) → Line (line_gives f r u o c)
   unfolding line_gives
   whole-line (ReplyLine.Opens code) u o c = held-line
   whole-line ReplyLine.Belongs u o c = held-line
@@ -199,13 +198,13 @@ module _ (f : Fixed) (size : length f.mapped ≡ ipv4_width) (octets : every is_
       (λ e. record { ahead = λ p. absurd (true≢false p); together = rw (length-append (passed h) (passed (x ∷ []))) (omega (arith, judged-held, doubled-most)) })
 
   -- the LF of a line that is held
-  end_line : eqb x lf ≡ true → (u : ℕ) (o : Owes) (c : List ℕ) → ServerLine (whole_line f u o c)
+  end_line : eqb x lf ≡ true → (u : ℕ) (o : Option Kind) (c : List ℕ) → ServerLine (whole_line f u o c)
   unfolding whole_line
   end_line e u o c =
       let most = (whole-line f size octets h x most_ahead (omega (arith, passed-within h less, lf-single x e)) (omega (arith, judged-held)) (reply_line u c) u o c).most in
       record { ahead = λ _. most; together = omega arith }
 
-  reply-line : (u : ℕ) (o : Owes) (p : Place) (n : ℕ) (line : List ℕ) (b : Bool) → eqb x lf ≡ b → ServerLine (reply_effect f u o p n line b)
+  reply-line : (u : ℕ) (o : Option Kind) (p : Place) (n : ℕ) (line : List ℕ) (b : Bool) → eqb x lf ≡ b → ServerLine (reply_effect f u o p n line b)
   unfolding reply_effect flowing_line gives_text
   reply-line u o Place.Holding n line true e = end_line e u o (content (take n line))
   reply-line u o Place.Holding n line false e = next-line u n
@@ -318,9 +317,9 @@ module _ (f : Fixed) (size : length f.mapped ≡ ipv4_width) (octets : every is_
 
   step-most : (d : Side) (does : Does) (o : Option ℕ) → is_queue_full d (is_passing s.control.client.place) s.control.owed ≡ false → WritesAtMost (step_by f d s does o)
   unfolding step_by line_step
-  step-most d does none not_full = telnet-step-most (is_client d) does
-  step-most client does (some y) not_full = client-most y not_full
-  step-most server does (some y) not_full = server-most y
+  step-most d does None not_full = telnet-step-most (is_client d) does
+  step-most client does (Some y) not_full = client-most y not_full
+  step-most server does (Some y) not_full = server-most y
 
 module _ (f : Fixed) (size : length f.mapped ≡ ipv4_width) (octets : every is_octet f.mapped ≡ true) (s : State) (x : ℕ) (few : Counted s.control) where
   pub octet-most : (d : Side) → is_queue_full d (is_passing s.control.client.place) s.control.owed ≡ false → WritesAtMost (octet_step f d s x)
@@ -337,12 +336,12 @@ octet-bound s d x shape e not_full = octet-most s.fixed shape.mapped shape.octet
 
 -- each buffer has room for what one octet writes at most
 goes_on : (d : Side) (s : State) (t : Step) (rs rc : ℕ) → is_queue_full d (is_passing s.control.client.place) s.control.owed ≡ false
-    → WritesAtMost t → most_to_client ≤ rs → most_to_client ≤ rc → stop_of d s t rs rc ≡ none
+    → WritesAtMost t → most_to_client ≤ rs → most_to_client ≤ rc → stop_of d s t rs rc ≡ None
 unfolding stop_of stop fits choose most_to_server most_to_client
 goes_on d s t rs rc not_full w hs hc =
     rw (not_full, le-leb (length t.to_server) rs (omega (arith, judged-held, w.to_server)), le-leb (length t.to_client) rc (omega (arith, w.to_client)))
 
-takes_one : (f : Fixed) (d : Side) (s : State) (x : ℕ) (xs : List ℕ) (rs rc : ℕ) → stop_of d s (octet_step f d s x) rs rc ≡ none
+takes_one : (f : Fixed) (d : Side) (s : State) (x : ℕ) (xs : List ℕ) (rs rc : ℕ) → stop_of d s (octet_step f d s x) rs rc ≡ None
     → 1 ≤ (takes f d s (x ∷ xs) rs rc).taken
 unfolding takes unless_stopped
 takes_one f d s x xs rs rc e = rw e (omega arith)

@@ -1,9 +1,10 @@
 -- No call makes a record that number 4 refuses, the bounds hold of every octet that an arrival comes to, and nothing is left to settle after it.
+use Rattle.rules.specs.declared.Kind.{Kind}
 use mathlib.Core.Path.{◌≡◌, refl, sym, ap, ◌∙◌, subst}
 use mathlib.Core.Bool.{Bool, true, false}
 use mathlib.Core.List.{List, [], ◌∷◌}
 use mathlib.Core.Logic.{inl, inr}
-use mathlib.Core.Option.{Option, none, some}
+use Rattle.std.specs.Prelude.{Option, None, Some}
 use Prim.Native.Nat.{ℕ, zero, suc, ◌+◌, ◌^◌, ◌≤◌, ◌<◌}
 use native.Mathlib.Omega.{arith}
 use lib.Dec.{eqb, leb, lit≤}
@@ -19,7 +20,6 @@ use Rattle.rules.specs.declared.Switches.{Switches}
 use Rattle.rules.specs.declared.Answer.{Answer}
 use Rattle.places.specs.declared.Place.{Place}
 use Rattle.places.specs.declared.Direction.{Direction}
-use Rattle.queue.specs.declared.Owes.{Owes}
 use Rattle.upstream.specs.declared.ClientEffect.{ClientEffect}
 use Rattle.downstream.specs.declared.ServerEffect.{ServerEffect}
 use Rattle.queue.specs.Kinds.{head_of, pushed}
@@ -101,7 +101,7 @@ place-sound f sw Place.Flowing n h false = record { direction = none-held _ }
 place-sound f sw Place.Passing n h b = record { direction = none-held _ }
 place-sound f sw Place.Ended n h b = record { direction = none-held _ }
 
-reply-sound : (f : Fixed) (u : ℕ) (o : Owes) (p : Place) (n : ℕ) (line : List ℕ) (b : Bool) → u < 2 ^ 32 → ServerSound (reply_effect f u o p n line b)
+reply-sound : (f : Fixed) (u : ℕ) (o : Option Kind) (p : Place) (n : ℕ) (line : List ℕ) (b : Bool) → u < 2 ^ 32 → ServerSound (reply_effect f u o p n line b)
 unfolding reply_effect whole_line flowing_line reply_octet
 reply-sound f u o Place.Holding n line true low =
     record { direction = none-held _; opening = opening-low u (content (take n line)) (2 ^ 32) (lit≤ tt) low }
@@ -123,10 +123,10 @@ passes-sound d Place.Ended h = h
 -- ---- an octet that 1 does not stop keeps the state sound
 
 -- where there is room for what an octet owes
-push_kept : {kinds : List ℕ} {owed : ℕ} → Listed kinds owed → (o : Owes) → owed_then owed o ≤ most_owed → Listed (pushed kinds owed o) (owed_then owed o)
+push_kept : {kinds : List ℕ} {owed : ℕ} → Listed kinds owed → (o : Option Kind) → owed_then owed o ≤ most_owed → Listed (pushed kinds owed o) (owed_then owed o)
 unfolding pushed owed_then
-push_kept q Owes.Nothing h = q
-push_kept q (Owes.One k) h = listed-push q k (omega arith)
+push_kept q None h = q
+push_kept q (Some k) h = listed-push q k (omega arith)
 
 pub record Kept (s : State) : Type 0 where
   pub queue : Listed s.kinds s.control.owed
@@ -249,10 +249,10 @@ record Turned (s : State) : Type 0 where
 step-turned : (f : Fixed) (d : Side) (s : State) (does : Does) (o : Option ℕ) → Kept s
     → is_queue_full d (is_passing s.control.client.place) s.control.owed ≡ false → Turned (step_by f d s does o).state
 unfolding step_by line_step client_step server_step telnet_step
-step-turned f d s does none h not_full = record { from = s; removes = 0; same = refl; kept = h }
-step-turned f client s does (some y) h not_full =
+step-turned f d s does None h not_full = record { from = s; removes = 0; same = refl; kept = h }
+step-turned f client s does (Some y) h not_full =
     record { from = client_state s y (client_effect_in f s y); removes = 0; same = refl; kept = client-turned f s y h not_full }
-step-turned f server s does (some y) h not_full =
+step-turned f server s does (Some y) h not_full =
     record { from = server_state s y (server_effect_in f s y); removes = (server_effect_in f s y).removes; same = refl; kept = server-turned f s y h }
 
 layered-kept : (d : Side) (s : State) (l : Layer) → l.removed < 2 ^ 32 → Kept s → Kept (layered d s l)

@@ -2,7 +2,7 @@
 use mathlib.Core.Path.{◌≡◌, refl}
 use mathlib.Core.Bool.{Bool, true}
 use mathlib.Core.List.{List, [], ◌∷◌, ◌++◌}
-use mathlib.Core.Option.{Option, none, some, map}
+use Rattle.std.specs.Prelude.{Option, None, Some, option_map}
 use Prim.Native.Nat.{ℕ, zero, suc, ◌+◌, ◌*◌, ◌≤◌}
 use native.Mathlib.Omega.{arith}
 use lib.ListN.{get_or, drop}
@@ -14,7 +14,6 @@ use Rattle.rules.specs.Commands.{
   epsv_command,
   Fields,
   three_fields,
-  port_argument,
   fields_argument,
   eprt_argument,
   eprt_command,
@@ -28,7 +27,6 @@ use Rattle.rules.specs.declared.Switches.{Switches}
 use Rattle.rules.specs.declared.CommandWord.{CommandWord}
 use Rattle.rules.specs.declared.OwnAnswer.{OwnAnswer}
 use Rattle.rules.specs.declared.EpsvArgument.{EpsvArgument}
-use Rattle.rules.specs.declared.EprtArgument.{EprtArgument}
 use Rattle.rules.specs.declared.AlgsArgument.{AlgsArgument}
 use Rattle.rules.specs.declared.Command.{Command}
 use Rattle.rules.specs.declared.PassiveReply.{PassiveReply}
@@ -42,15 +40,15 @@ use Rattle.answers.proofs.Lengths.{is_octet, octet-at}
 
 -- a number that is read, if one is, is at most n
 data Most (n : ℕ) : Option ℕ → Type 0 where
-  nothing : Most n none
-  most : (v : ℕ) → v ≤ n → Most n (some v)
+  nothing : Most n None
+  most : (v : ℕ) → v ≤ n → Most n (Some v)
 
 number-most : (digits lo hi : ℕ) (xs : List ℕ) → Most hi (number digits lo hi xs)
 number-most digits lo hi xs = as_read (number digits lo hi xs) refl
   where
     as_read : (o : Option ℕ) → number digits lo hi xs ≡ o → Most hi o
-    as_read none e = nothing
-    as_read (some v) e = most v (number-le digits lo hi xs v e)
+    as_read None e = nothing
+    as_read (Some v) e = most v (number-le digits lo hi xs v e)
 
 -- ---- a client line
 
@@ -61,30 +59,21 @@ pub data SmallCommand : Command → Type 0 where
   answered : (a : OwnAnswer) → SmallCommand (Command.Answered a)
   auth : SmallCommand Command.Auth
 
-data SmallArgument : EprtArgument → Type 0 where
-  port : (p : ℕ) → p ≤ 65535 → SmallArgument (EprtArgument.Port p)
-  other : SmallArgument EprtArgument.Other
-
-argument-port : (o : Option ℕ) → Most 65535 o → SmallArgument (port_argument o)
-unfolding port_argument
-argument-port none m = other
-argument-port (some p) (most v h) = port v h
-
-argument-fields : (client : List ℕ) (f : Fields) → SmallArgument (fields_argument client f)
+argument-fields : (client : List ℕ) (f : Fields) → Most 65535 (fields_argument client f)
 unfolding fields_argument
-argument-fields client none = other
-argument-fields client (some (protocol, address, p)) =
-    either SmallArgument _ _ _ (argument-port (number 5 1 65535 p) (number-most 5 1 65535 p)) other
+argument-fields client None = nothing
+argument-fields client (Some (protocol, address, p)) =
+    either (Most 65535) _ _ _ (number-most 5 1 65535 p) nothing
 
-argument-small : (client a : List ℕ) → SmallArgument (eprt_argument client a)
+argument-small : (client a : List ℕ) → Most 65535 (eprt_argument client a)
 unfolding eprt_argument
-argument-small client [] = other
-argument-small client (d ∷ r) = either SmallArgument _ _ _ (argument-fields client (three_fields (parts d (d ∷ r)))) other
+argument-small client [] = nothing
+argument-small client (d ∷ r) = either (Most 65535) _ _ _ (argument-fields client (three_fields (parts d (d ∷ r)))) nothing
 
-eprt-small : (a : EprtArgument) → SmallArgument a → SmallCommand (eprt_command a)
+eprt-small : (a : Option ℕ) → Most 65535 a → SmallCommand (eprt_command a)
 unfolding eprt_command
-eprt-small (EprtArgument.Port p) (port q h) = port q h
-eprt-small EprtArgument.Other h = passes
+eprt-small (Some p) (most q h) = port q h
+eprt-small None h = passes
 
 epsv-small : (a : EpsvArgument) → SmallCommand (epsv_command a)
 unfolding epsv_command
@@ -118,13 +107,13 @@ command-small f sw l = word_small f sw _ _
 
 -- the numbers that are read, if some are, are octets
 data Octets : Option (List ℕ) → Type 0 where
-  nothing : Octets none
-  octets : (ns : List ℕ) → every is_octet ns ≡ true → Octets (some ns)
+  nothing : Octets None
+  octets : (ns : List ℕ) → every is_octet ns ≡ true → Octets (Some ns)
 
-one-octet : (o : Option ℕ) → Most 255 o → Octets (map (λ n. n ∷ []) o)
+one-octet : (o : Option ℕ) → Most 255 o → Octets (option_map (λ n. n ∷ []) o)
 unfolding every
-one-octet none m = nothing
-one-octet (some n) (most v h) = octets (v ∷ []) (rw (le-leb v 255 h))
+one-octet None m = nothing
+one-octet (Some n) (most v h) = octets (v ∷ []) (rw (le-leb v 255 h))
 
 number-octet : (d : List ℕ) → Octets (octet_number d)
 unfolding octet_number
@@ -132,9 +121,9 @@ number-octet d = one-octet (number 3 0 255 d) (number-most 3 0 255 d)
 
 both-octets : (a b : Option (List ℕ)) → Octets a → Octets b → Octets (both a b)
 unfolding both
-both-octets none b p q = nothing
-both-octets (some a) none p q = nothing
-both-octets (some a) (some b) (octets c p) (octets d q) = octets (c ++ d) (every_append is_octet c d p q)
+both-octets None b p q = nothing
+both-octets (Some a) None p q = nothing
+both-octets (Some a) (Some b) (octets c p) (octets d q) = octets (c ++ d) (every_append is_octet c d p q)
 
 numbers-octets : (k : ℕ) (t : List ℕ) → Octets (numbers k t)
 unfolding numbers after_comma
@@ -142,16 +131,16 @@ numbers-octets zero t = number-octet (front digit t)
 numbers-octets (suc k) t =
     both-octets _ _ (number-octet (front digit t)) (either Octets _ _ _ (numbers-octets k (drop 1 (after digit t))) nothing)
 
-pub data SmallReply : PassiveReply → Type 0 where
-  named : (a b c d p : ℕ) → p ≤ 65535 → SmallReply (PassiveReply.At a b c d p)
-  unreadable : SmallReply PassiveReply.Unreadable
+pub data SmallReply : Option PassiveReply → Type 0 where
+  named : (r : PassiveReply) → r.port ≤ 65535 → SmallReply (Some r)
+  unreadable : SmallReply None
 
 port-small : (o : Option (List ℕ)) → Octets o → SmallReply (passive_at o)
 unfolding passive_at
-port-small none p = unreadable
-port-small (some l) (octets ns e) =
+port-small None p = unreadable
+port-small (Some l) (octets ns e) =
     either SmallReply _ _ _ unreadable
-    (named _ _ _ _ (get_or ns 4 0 * 256 + get_or ns 5 0) (omega (arith, octet-at ns 4 e, octet-at ns 5 e)))
+    (named _ (omega (arith, octet-at ns 4 e, octet-at ns 5 e)))
 
 pub reply-small : (c : List ℕ) → SmallReply (passive_reply c)
 unfolding passive_reply

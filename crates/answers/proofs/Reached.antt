@@ -3,7 +3,7 @@
 use mathlib.Core.Path.{◌≡◌, refl, sym, ap, ◌∙◌, subst}
 use mathlib.Core.Bool.{true}
 use mathlib.Core.List.{List, [], ◌∷◌, ◌++◌}
-use mathlib.Core.Option.{Option, none}
+use Rattle.std.specs.Prelude.{Option, None}
 use Prim.Native.Nat.{ℕ, ◌+◌, ◌-◌, ◌<◌}
 use native.Mathlib.Nat.{add-zero}
 use native.Mathlib.Omega.{arith}
@@ -98,7 +98,7 @@ module _ (f : Fixed) (d : Side) (s : State) (open1 : (k : ℕ) (line : List ℕ)
       ∙ (λ i. holding d s (count i) (append_snoc front iac (replicate (length old) iac) i))
 
 -- what is so after an arrival that nothing refuses, by the state that it leads to, whatever is counted then
-module _ (s : Session) (d : ℕ) (xs : List ℕ) (free : refusal_of s d ≡ none) (t : State)
+module _ (s : Session) (d : ℕ) (xs : List ℕ) (free : refusal_of s d ≡ None) (t : State)
     (leads : state_then s.fixed (side_of d) (state_of s) xs ≡ t) where
   abbrev took : Took
   took = takes s.fixed (side_of d) (state_of s) xs enough enough

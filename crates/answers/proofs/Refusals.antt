@@ -3,7 +3,7 @@ use mathlib.Core.Path.{◌≡◌, refl, sym, ap, ◌∙◌}
 use mathlib.Core.Bool.{Bool, true, false, ◌&&◌, true≢false}
 use mathlib.Core.List.{List, [], ◌∷◌}
 use mathlib.Core.Logic.{◌↔◌, ◌≢◌, inl, inr}
-use mathlib.Core.Option.{Option, none, some}
+use Rattle.std.specs.Prelude.{Option, None, Some}
 use Prim.Native.Nat.{ℕ, zero, suc, ◌≤◌, ◌<◌}
 use native.Mathlib.Omega.{arith}
 use lib.Dec.{leb}
@@ -122,10 +122,10 @@ ended-words s d = (at (direction_of (side_of d) s.control).place, (λ e. ap is_e
 -- ---- all that refuses, in the table's order
 
 pub data Refusal (s : Session) (d : ℕ) : Option Answer → Type 0 where
-  unknown : Unknown d → Refusal s d (some Answer.UnknownDirection)
-  bad : Known d → (Sound s → ⊥) → Refusal s d (some Answer.BadRecord)
-  over : Known d → Sound s → HasEnded s d → Refusal s d (some Answer.DirectionEnded)
-  accepted : Known d → Sound s → (HasEnded s d → ⊥) → Refusal s d none
+  unknown : Unknown d → Refusal s d (Some Answer.UnknownDirection)
+  bad : Known d → (Sound s → ⊥) → Refusal s d (Some Answer.BadRecord)
+  over : Known d → Sound s → HasEnded s d → Refusal s d (Some Answer.DirectionEnded)
+  accepted : Known d → Sound s → (HasEnded s d → ⊥) → Refusal s d None
 
 pub refusal-of : (s : Session) (d : ℕ) → Refusal s d (refusal_of s d)
 unfolding refusal_of

@@ -3,7 +3,7 @@ use mathlib.Core.Path.{◌≡◌, refl, sym, ap, ◌∙◌, subst}
 use mathlib.Core.Bool.{Bool, true, false, ◌&&◌, ◌||◌, not, true≢false}
 use mathlib.Core.List.{List, []}
 use mathlib.Core.Logic.{◌↔◌, ◌≢◌, ◌⊎◌, inl, inr}
-use mathlib.Core.Option.{Option, none, some}
+use Rattle.std.specs.Prelude.{Option, None, Some}
 use Prim.Native.Nat.{ℕ, zero, suc, ◌^◌, ◌≤◌, ◌<◌}
 use native.Mathlib.Omega.{arith}
 use lib.Dec.{leb}
@@ -145,7 +145,7 @@ unless-words c o P W never needs words = by-refusal (refusal_of c.session c.dire
     by-refusal r (accepted k n e) = words (record { known = k; sound = n; not_ended = e })
 
 -- nothing refuses an accepted call
-not-refused : (c : Situation) → Accepted c → (r : Option Answer) → Refusal c.session c.direction r → r ≡ none
+not-refused : (c : Situation) → Accepted c → (r : Option Answer) → Refusal c.session c.direction r → r ≡ None
 not-refused c w r (unknown u) = absurd (both_ways c.direction u w.known)
 not-refused c w r (bad k n) = absurd (n w.sound)
 not-refused c w r (over k n e) = absurd (w.not_ended e)
@@ -170,7 +170,7 @@ module _ (c : Situation) (octets : List ℕ) where
   abbrev pub ItsLast : Type 0
   ItsLast = Last c.session.fixed (side_of c.direction) (state_of c.session) octets c.server_room c.client_room took.taken took.answer
 
-  goes_on : (j : ℕ) → (stops_at c octets j ≡ none) ↔ NotStopped c octets j
+  goes_on : (j : ℕ) → (stops_at c octets j ≡ None) ↔ NotStopped c octets j
   goes_on j =
       let w = stops-none (stop-words c octets j) in
       ((λ e. record { not_full = (w.0 e).0; room = (w.0 e).1 }), (λ g. w.1 (g.not_full, g.room)))
@@ -199,10 +199,10 @@ module _ (c : Situation) (octets : List ℕ) where
           → ItsLast
           → Zero c octets took.taken
       by_last e (inl p) = record { takes = taken-first w; all = p.0 }
-      by_last e (inr p) = absurd (stops-not-done (stop-words c octets took.taken) (p.1 ∙ ap some e))
+      by_last e (inr p) = absurd (stops-not-done (stop-words c octets took.taken) (p.1 ∙ ap Some e))
 
   -- 1 and 2: a number that is not 0, and what stops the next octet with it
-  pub stopped-words : (a : Answer) (why : ℕ → Type 0) → a ≢ Answer.Done → ((k : ℕ) → (stops_at c octets k ≡ some a) ↔ why k)
+  pub stopped-words : (a : Answer) (why : ℕ → Type 0) → a ≢ Answer.Done → ((k : ℕ) → (stops_at c octets k ≡ Some a) ↔ why k)
       → (k : ℕ) → Accepted c → ((number_of result ≡ answer_number a) × (result.called.taken ≡ k)) ↔ StopsAt c octets k (why k)
   unfolding outcome
   stopped-words a why n stops_by k w = (
@@ -213,7 +213,7 @@ module _ (c : Situation) (octets : List ℕ) where
     where
       by_last : took.answer ≡ a → ItsLast → StopsAt c octets took.taken (why took.taken)
       by_last e (inl p) = absurd (n (sym e ∙ p.1))
-      by_last e (inr p) = record { takes = taken-first w; more = p.0; reason = (stops_by took.taken).0 (p.1 ∙ ap some e) }
+      by_last e (inr p) = record { takes = taken-first w; more = p.0; reason = (stops_by took.taken).0 (p.1 ∙ ap Some e) }
 
   pub result-after : After c octets result.called.taken result
   unfolding outcome

@@ -3,7 +3,7 @@ use mathlib.Core.Path.{◌≡◌, refl, sym, ap, ◌∙◌}
 use mathlib.Core.Bool.{Bool, true, false, true≢false}
 use mathlib.Core.List.{List, [], ◌∷◌, ◌++◌}
 use mathlib.Core.Logic.{◌↔◌, ◌≢◌, ◌⊎◌, inl, inr}
-use mathlib.Core.Option.{Option, none, some}
+use Rattle.std.specs.Prelude.{Option, None, Some}
 use Prim.Native.Nat.{ℕ, zero, suc, ◌-◌, ◌≤◌, ◌<◌}
 use native.Mathlib.Nat.{sub-zero, sub-add-eq}
 use native.Mathlib.Omega.{arith}
@@ -37,15 +37,15 @@ room xs ys rs rc e (inr h) = omega (arith, (fits-room xs ys rs rc e).1)
 
 -- "1 before 2"
 pub data Stops (full : Type 0) (exceeds : Type 0) : Option Answer → Type 0 where
-  is_full : full → Stops full exceeds (some Answer.QueueFull)
-  no_room : (full → ⊥) → exceeds → Stops full exceeds (some Answer.NoRoom)
-  goes_on : (full → ⊥) → (exceeds → ⊥) → Stops full exceeds none
+  is_full : full → Stops full exceeds (Some Answer.QueueFull)
+  no_room : (full → ⊥) → exceeds → Stops full exceeds (Some Answer.NoRoom)
+  goes_on : (full → ⊥) → (exceeds → ⊥) → Stops full exceeds None
 
 abbrev or_done : Option Answer → Answer
-or_done none = Answer.Done
-or_done (some a) = a
+or_done None = Answer.Done
+or_done (Some a) = a
 
-some-none : {a : Answer} → some a ≡ none → ⊥
+some-none : {a : Answer} → Some a ≡ None → ⊥
 some-none e = let z : ◌≡◌ {A = ℕ} 0 1 = cc in omega arith
 
 pub stops : (full exceeds : Type 0) (a b : Bool) → (a ≡ true → full) → (a ≡ false → full → ⊥) → (b ≡ false → exceeds) → (b ≡ true → exceeds → ⊥)
@@ -54,27 +54,27 @@ stops full exceeds a b is is_not more less =
     stop-cases (Stops full exceeds) a b (λ e. is_full (is e)) (λ e f. no_room (is_not e) (more f)) (λ e f. goes_on (is_not e) (less f))
 
 module _ {full exceeds : Type 0} where
-  pub stops-none : {o : Option Answer} → Stops full exceeds o → (o ≡ none) ↔ ((full → ⊥) × (exceeds → ⊥))
+  pub stops-none : {o : Option Answer} → Stops full exceeds o → (o ≡ None) ↔ ((full → ⊥) × (exceeds → ⊥))
   stops-none (is_full p) = ((λ e. absurd (some-none e)), (λ w. absurd (w.0 p)))
   stops-none (no_room n p) = ((λ e. absurd (some-none e)), (λ w. absurd (w.1 p)))
   stops-none (goes_on n m) = ((λ e. (n, m)), (λ w. refl))
 
-  pub stops-full : {o : Option Answer} → Stops full exceeds o → (o ≡ some Answer.QueueFull) ↔ full
+  pub stops-full : {o : Option Answer} → Stops full exceeds o → (o ≡ Some Answer.QueueFull) ↔ full
   stops-full (is_full p) = ((λ e. p), (λ w. refl))
   stops-full (no_room n p) = ((λ e. absurd (let z : ◌≡◌ {A = ℕ} 0 1 = cc in omega arith)), (λ w. absurd (n w)))
   stops-full (goes_on n m) = ((λ e. absurd (some-none (sym e))), (λ w. absurd (n w)))
 
-  pub stops-room : {o : Option Answer} → Stops full exceeds o → (o ≡ some Answer.NoRoom) ↔ ((full → ⊥) × exceeds)
+  pub stops-room : {o : Option Answer} → Stops full exceeds o → (o ≡ Some Answer.NoRoom) ↔ ((full → ⊥) × exceeds)
   stops-room (is_full p) = ((λ e. absurd (let z : ◌≡◌ {A = ℕ} 0 1 = cc in omega arith)), (λ w. absurd (w.0 p)))
   stops-room (no_room n p) = ((λ e. (n, p)), (λ w. refl))
   stops-room (goes_on n m) = ((λ e. absurd (some-none (sym e))), (λ w. absurd (m w.1)))
 
-  pub stops-low : {o : Option Answer} {a : Answer} → Stops full exceeds o → o ≡ some a → answer_number a < 3
+  pub stops-low : {o : Option Answer} {a : Answer} → Stops full exceeds o → o ≡ Some a → answer_number a < 3
   stops-low (is_full p) e = rw (← ap or_done e) (omega arith)
   stops-low (no_room n p) e = rw (← ap or_done e) (omega arith)
   stops-low (goes_on n m) e = absurd (some-none (sym e))
 
-  pub stops-not-done : {o : Option Answer} → Stops full exceeds o → o ≡ some Answer.Done → ⊥
+  pub stops-not-done : {o : Option Answer} → Stops full exceeds o → o ≡ Some Answer.Done → ⊥
   stops-not-done (is_full p) e = let z : ◌≡◌ {A = ℕ} 0 1 = cc in omega arith
   stops-not-done (no_room n p) e = let z : ◌≡◌ {A = ℕ} 0 1 = cc in omega arith
   stops-not-done (goes_on n m) e = some-none (sym e)
@@ -89,13 +89,13 @@ stop_at f d s xs rs rc k =
 
 -- all octets are taken, or the next one is stopped
 abbrev pub Last : Fixed → Side → State → List ℕ → ℕ → ℕ → ℕ → Answer → Type 0
-Last f d s xs rs rc k a = ((k ≡ length xs) × (a ≡ Answer.Done)) ⊎ ((k < length xs) × (stop_at f d s xs rs rc k ≡ some a))
+Last f d s xs rs rc k a = ((k ≡ length xs) × (a ≡ Answer.Done)) ⊎ ((k < length xs) × (stop_at f d s xs rs rc k ≡ Some a))
 
 pub record Taking (f : Fixed) (d : Side) (s : State) (xs : List ℕ) (rs rc : ℕ) (r : Took) : Type 0 where
   pub to_server : r.to_server ≡ (octet_steps f d s (take r.taken xs)).to_server
   pub to_client : r.to_client ≡ (octet_steps f d s (take r.taken xs)).to_client
   pub state : r.state ≡ (octet_steps f d s (take r.taken xs)).state
-  pub each : (j : ℕ) → j < r.taken → stop_at f d s xs rs rc j ≡ none
+  pub each : (j : ℕ) → j < r.taken → stop_at f d s xs rs rc j ≡ None
   pub last : Last f d s xs rs rc r.taken r.answer
 
 module _ (f : Fixed) (d : Side) where
@@ -111,7 +111,7 @@ module _ (f : Fixed) (d : Side) where
       let b : Step = octet_steps f d t.state (take k xs) in
       rw (length-append t.to_server b.to_server, length-append t.to_client b.to_client, sub-add-eq rs (length t.to_server) (length b.to_server), sub-add-eq rc (length t.to_client) (length b.to_client))
 
-  taking-nothing : (s : State) (x : ℕ) (xs : List ℕ) (rs rc : ℕ) (a : Answer) → stop_of d s (octet_step f d s x) rs rc ≡ some a → Taking f d s (x ∷ xs) rs rc (took_nothing a s)
+  taking-nothing : (s : State) (x : ℕ) (xs : List ℕ) (rs rc : ℕ) (a : Answer) → stop_of d s (octet_step f d s x) rs rc ≡ Some a → Taking f d s (x ∷ xs) rs rc (took_nothing a s)
   unfolding octet_steps
   taking-nothing s x xs rs rc a e =
       record {
@@ -123,7 +123,7 @@ module _ (f : Fixed) (d : Side) where
       }
 
   taking-more : (s : State) (x : ℕ) (xs : List ℕ) (rs rc : ℕ) (r : Took) → let t = octet_step f d s x in
-      stop_of d s t rs rc ≡ none → Taking f d t.state xs (rs - length t.to_server) (rc - length t.to_client) r
+      stop_of d s t rs rc ≡ None → Taking f d t.state xs (rs - length t.to_server) (rc - length t.to_client) r
       → Taking f d s (x ∷ xs) rs rc (and_then t r)
   unfolding octet_steps
   taking-more s x xs rs rc r e m =
@@ -136,7 +136,7 @@ module _ (f : Fixed) (d : Side) where
         last = last_more m.last;
       }
     where
-      each_more : (j : ℕ) → j < suc r.taken → stop_at f d s (x ∷ xs) rs rc j ≡ none
+      each_more : (j : ℕ) → j < suc r.taken → stop_at f d s (x ∷ xs) rs rc j ≡ None
       each_more zero h = stop-first s x xs rs rc ∙ e
       each_more (suc j) h = stop-next s x xs rs rc j ∙ m.each j (omega arith)
 
@@ -158,7 +158,7 @@ module _ (f : Fixed) (d : Side) where
 
 module _ {f : Fixed} {d : Side} {s : State} {xs : List ℕ} {rs rc : ℕ} {r : Took} (t : Taking f d s xs rs rc r) where
   -- at a position with nothing before it, the arrival stops there or goes on beyond it
-  at_least : (k : ℕ) → k ≤ length xs → ((j : ℕ) → j < k → stop_at f d s xs rs rc j ≡ none) → k ≤ r.taken
+  at_least : (k : ℕ) → k ≤ length xs → ((j : ℕ) → j < k → stop_at f d s xs rs rc j ≡ None) → k ≤ r.taken
   at_least k h e = by-test (leb k r.taken) refl
     where
       past : r.taken < k → Last f d s xs rs rc r.taken r.answer → ⊥
@@ -169,14 +169,14 @@ module _ {f : Fixed} {d : Side} {s : State} {xs : List ℕ} {rs rc : ℕ} {r : T
       by-test true p = leb-true k r.taken p
       by-test false p = absurd (past (leb-false k r.taken p) t.last)
 
-  pub all-taken : ((j : ℕ) → j < length xs → stop_at f d s xs rs rc j ≡ none) → (r.taken ≡ length xs) × (r.answer ≡ Answer.Done)
+  pub all-taken : ((j : ℕ) → j < length xs → stop_at f d s xs rs rc j ≡ None) → (r.taken ≡ length xs) × (r.answer ≡ Answer.Done)
   all-taken e = by_last t.last
     where
       by_last : Last f d s xs rs rc r.taken r.answer → (r.taken ≡ length xs) × (r.answer ≡ Answer.Done)
       by_last (inl p) = p
       by_last (inr p) = let z : ◌≡◌ {A = ℕ} 0 1 = cc (p.1, e r.taken p.0) in absurd (omega arith)
 
-  pub stopped-at : (k : ℕ) (a : Answer) → k < length xs → ((j : ℕ) → j < k → stop_at f d s xs rs rc j ≡ none) → stop_at f d s xs rs rc k ≡ some a
+  pub stopped-at : (k : ℕ) (a : Answer) → k < length xs → ((j : ℕ) → j < k → stop_at f d s xs rs rc j ≡ None) → stop_at f d s xs rs rc k ≡ Some a
       → (r.taken ≡ k) × (r.answer ≡ a)
   stopped-at k a h e stopped = by-test (ltb k r.taken) refl
     where

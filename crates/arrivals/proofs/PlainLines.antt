@@ -44,7 +44,7 @@ use Rattle.steps.proofs.Lent.{put-part, put-size, kinds-size, kinds-back, kinds-
 
 pub said-none : (l : List ℕ) (i held owed : ℕ) (lent out : List ℕ) (at : ℕ) → i ≤ length l → held ≤ most_held → owed ≤ most_owed → at ≤ length out
     → is_still (kinds_lent lent) 0 owed ≡ true
-    → SaidPlain l i held owed lent out at (record { more = false; taken = i; held = held; owed = owed; at = at }) lent out
+    → SaidPlain l i held owed lent out at (record { taken = i; held = held; owed = owed; at = at }) lent out
 said-none l i held owed lent out at inside most count room still =
     record {
       ran = λ f c _ to_client n h.
@@ -72,12 +72,6 @@ module _ {l : List ℕ} {i held owed : ℕ} {lent out : List ℕ} {at : ℕ} {r 
         still = two.still;
         addresses = two.addresses ∙ one.addresses;
       }
-
-  -- whether another may follow is no part of it
-  pub said-so : SaidPlain l i held owed lent out at r lent' out'
-      → SaidPlain l i held owed lent out at (record { more = false; taken = r.taken; held = r.held; owed = r.owed; at = r.at }) lent' out'
-  said-so s =
-      record { ran = s.ran; held = s.held; owed = s.owed; written = s.written; still = s.still; addresses = s.addresses }
 
   -- any session has the same end of the octets taken
   pub said-inside : SaidPlain l i held owed lent out at r lent' out' → r.taken ≤ length l
@@ -147,7 +141,7 @@ module _ (l : List ℕ) {i j : ℕ} (held : ℕ) (lent : List ℕ) {p : List ℕ
   -- the octets up to an LF, put behind those that are held
   pub line-held : (owed : ℕ) (out : List ℕ) (at : ℕ) → every is_ordinary xs ≡ true → owed < most_owed → is_still (kinds_lent lent) 0 owed ≡ true
       → at ≤ length out
-      → SaidPlain l i held owed lent out at (record { more = false; taken = j; held = held + (j - i); owed = owed; at = at })
+      → SaidPlain l i held owed lent out at (record { taken = j; held = held + (j - i); owed = owed; at = at })
       (put_mid lent_command most_held lent p) out
   line-held owed out at none few still inside =
       let n = held + (j - i) in
@@ -212,7 +206,7 @@ module _ (l : List ℕ) {j : ℕ} (n owed : ℕ) (lent : List ℕ) (all : length
   pub line-ended : j < length l → get_or l j 0 ≡ lf → n ≤ most_held → owed < most_owed → is_still (kinds_lent lent) 0 owed ≡ true → at ≤ length out
       → length (passed line) < length out - at → line ≡ take (lent_command + n - lent_command) (drop lent_command lent) → is_plain line ≡ true
       → next ≡ position_after out at (passed line ++ (lf ∷ [])) → out' ≡ put_at out at (passed line ++ (lf ∷ []))
-      → SaidPlain l j n owed lent out at (record { more = true; taken = j + 1; held = 0; owed = owed + 1; at = next })
+      → SaidPlain l j n owed lent out at (record { taken = j + 1; held = 0; owed = owed + 1; at = next })
       (set lent (lent_kinds + owed) 0) out'
   line-ended h e most few still inside room el plain en eo =
       let kinds = kinds-size lent all in

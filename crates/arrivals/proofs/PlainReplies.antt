@@ -1,4 +1,5 @@
 -- Plain lines of the server, as runs over what is lent: octets that are held, and the LF whose line passes as it is.
+use Rattle.std.specs.Prelude.{None, Some}
 use mathlib.Core.Path.{◌≡◌, refl, sym, ap, subst, ◌∙◌}
 use mathlib.Core.Bool.{Bool, true, false, ◌||◌, ◌&&◌}
 use mathlib.Core.List.{List, [], ◌∷◌, ◌++◌, append-nil}
@@ -26,7 +27,6 @@ use Rattle.places.specs.declared.Place.{Place}
 use Rattle.places.specs.Places.{at, direction_from_now}
 use Rattle.gives.specs.declared.Gives.{Gives}
 use Rattle.gives.specs.Text.{gives_text}
-use Rattle.queue.specs.declared.Owes.{Owes}
 use Rattle.queue.specs.Kinds.{kind_of, head_of, answers_at_head, shifted, is_still}
 use Rattle.queue.proofs.Listed.{length-shifted}
 use Rattle.downstream.specs.Downstream.{server_effect_of, kind_removed, head_removed, line_removes, kind_effect, head_effect, line_gives, whole_line, reply_effect, server_effect}
@@ -129,7 +129,7 @@ module _ (kinds : List ℕ) (u : ℕ) (owed : ℕ) (still : is_still kinds 0 owe
       some-owed zero none = absurd (none refl)
       some-owed (suc m) none = omega arith
 
-  final-removes : (b : Bool) → eqb owed 0 ≡ b → head_removed (choose b Owes.Nothing (Owes.One (kind_of (get_or kinds 0 0)))) ≡ choose b 0 1
+  final-removes : (b : Bool) → eqb owed 0 ≡ b → head_removed (choose b None (Some (kind_of (get_or kinds 0 0)))) ≡ choose b 0 1
   unfolding head_removed choose
   final-removes true e = refl
   final-removes false e = low-removed (get_or kinds 0 0) (first-low e)
@@ -143,7 +143,7 @@ module _ (kinds : List ℕ) (u : ℕ) (owed : ℕ) (still : is_still kinds 0 owe
   line-removes ReplyLine.Final = final-removes (eqb owed 0) refl
 
   final-gives : (f : Fixed) (c : List ℕ) (b v : Bool) → keeps_still kinds v (choose b 0 1) owed ≡ true
-      → choose v Gives.HeldAndOctet (head_effect f (choose b Owes.Nothing (Owes.One (kind_of (get_or kinds 0 0)))) c) ≡ Gives.HeldAndOctet
+      → choose v Gives.HeldAndOctet (head_effect f (choose b None (Some (kind_of (get_or kinds 0 0)))) c) ≡ Gives.HeldAndOctet
   unfolding head_effect choose keeps_still is_plain_first
   final-gives f c true true h = refl
   final-gives f c true false h = refl
@@ -260,7 +260,7 @@ reply-lent lent all = take_all most_held (drop lent_reply lent) (omega (arith, a
 -- no octet, and one run behind the other
 module _ (l : List ℕ) (i h m : ℕ) (u : ℕ) (lent out : List ℕ) (w : ℕ) where
   pub answered-none : i ≤ length l → h ≤ most_held → m ≤ most_owed → w ≤ length out → is_still (kinds_lent lent) 0 m ≡ true
-      → AnsweredPlain l i h m u lent out w (record { more = false; taken = i; held = h; owed = m; opening = u; at = w }) lent out
+      → AnsweredPlain l i h m u lent out w (record { taken = i; held = h; owed = m; opening = u; at = w }) lent out
   answered-none inside held owed written still =
       record {
         ran = λ f c _ sb n room. ran-none f server l (core_lent (answered_control c h m u) lent sb out (record { server = n; client = w })) i inside room written;
@@ -285,13 +285,6 @@ module _ (l : List ℕ) (i h m : ℕ) (u : ℕ) (lent out : List ℕ) (w : ℕ) 
         still = b.still;
         addresses = b.addresses ∙ a.addresses;
       }
-
-  -- whether another may follow is not looked at
-  pub answered-more : (b : Bool) (r : Answered) (lent' out' : List ℕ) → AnsweredPlain l i h m u lent out w r lent' out'
-      → AnsweredPlain l i h m u lent out w
-      (record { more = b; taken = r.taken; held = r.held; owed = r.owed; opening = r.opening; at = r.at }) lent' out'
-  answered-more b r lent' out' a =
-      record { ran = a.ran; held = a.held; owed = a.owed; written = a.written; still = a.still; addresses = a.addresses }
 
 -- a run from a control in which the server holds its octets
 pub answered-from : (f : Fixed) (l : List ℕ) (c : Control) (lent sb cb : List ℕ) (w : Written) (i j : ℕ) (then : Control → Core) {after before : Control}
@@ -332,7 +325,7 @@ module _ (l : List ℕ) (i j h : ℕ) (lent p : List ℕ) (all : length lent ≡
       sym (ap (take (lent_reply + held - lent_reply)) same ∙ (ap (λ (k : ℕ). take k (put_at line 0 ys)) long ∙ take-put-at line 0 ys (omega arith)))
 
   pub reply-held : (m : ℕ) (u : ℕ) (out : List ℕ) (w : ℕ) → m ≤ most_owed → w ≤ length out → is_still (kinds_lent lent) 0 m ≡ true → every is_ordinary ys ≡ true
-      → AnsweredPlain l i h m u lent out w (record { more = false; taken = j; held = held; owed = m; opening = u; at = w }) (put_mid lent_reply most_held lent p) out
+      → AnsweredPlain l i h m u lent out w (record { taken = j; held = held; owed = m; opening = u; at = w }) (put_mid lent_reply most_held lent p) out
   reply-held m u out w owed written still none =
       record {
         ran = λ f c clear sb k other.
@@ -371,7 +364,7 @@ module _ (l : List ℕ) (j n m : ℕ) (u : ℕ) (lent p out out' : List ℕ) (w 
   line-long : length (passed line) ≡ length (passed seen)
   line-long = ap (λ (x : List ℕ). length (passed x)) (el ∙ sym es)
 
-  pub reply-ended : AnsweredPlain l j n m u lent out w (record { more = true; taken = j + 1; held = 0; owed = m - k; opening = v; at = next }) (put_mid lent_kinds most_owed lent p) out'
+  pub reply-ended : AnsweredPlain l j n m u lent out w (record { taken = j + 1; held = 0; owed = m - k; opening = v; at = next }) (put_mid lent_kinds most_owed lent p) out'
   reply-ended =
       let x = passed line ++ (lf ∷ []) in
       let fits : w + length x ≤ length out = omega (arith, line-long, length-append (passed line) (lf ∷ [])) in

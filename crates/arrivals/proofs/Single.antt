@@ -1,4 +1,5 @@
 -- One octet on a settled state that is held, flows or passes: its step in all, and that the state stays settled.
+use Rattle.std.specs.Prelude.{None}
 use mathlib.Core.Path.{◌≡◌, refl, sym, ap, subst, ◌∙◌}
 use mathlib.Core.Bool.{true, false, ◌||◌, false≢true}
 use mathlib.Core.List.{List, [], ◌∷◌, ◌++◌}
@@ -17,7 +18,6 @@ use Rattle.places.specs.declared.Direction.{Direction}
 use Rattle.places.specs.Places.{at, is_holding, is_in_lines, is_flowing_or_ended}
 use Rattle.gives.specs.declared.Gives.{Gives}
 use Rattle.gives.specs.Text.{gives_text}
-use Rattle.queue.specs.declared.Owes.{Owes}
 use Rattle.queue.specs.Kinds.{pushed, head_of}
 use Rattle.upstream.specs.Upstream.{client_effect_of, join_effect, place_effect, client_effect}
 use Rattle.downstream.specs.Downstream.{server_effect_of, reply_octet, reply_effect, server_effect}
@@ -58,7 +58,7 @@ client-kept s settled d line = record { answers = settled.answers; auth = settle
 module _ (f : Fixed) (s : State) (x : ℕ) where
   -- an octet that owes nothing leaves the queue, the reply and the server alone
   client-step : (g : Gives) (d : Direction)
-      → client_effect_in f s x ≡ client_effect_of g d s.control.switches Owes.Nothing
+      → client_effect_in f s x ≡ client_effect_of g d s.control.switches None
       → Settled (with_command s d (stored s.command s.control.client.held x g))
       → line_step f client s x
       ≡ step_to (with_command s d (stored s.command s.control.client.held x g))
@@ -74,7 +74,7 @@ module _ (f : Fixed) (s : State) (x : ℕ) where
 
   -- an octet that goes on as it is leaves the state alone
   client-gives : Settled s → (p : Place) (g : Gives) → s.control.client ≡ at p 0
-      → client_effect_in f s x ≡ client_effect_of g (at p 0) s.control.switches Owes.Nothing → GoesAlone f x g
+      → client_effect_in f s x ≡ client_effect_of g (at p 0) s.control.switches None → GoesAlone f x g
       → line_step f client s x ≡ step_to s (x ∷ []) []
   client-gives settled p g place e alone =
       let kept = alone.kept s.command s.control.client.held in

@@ -9,12 +9,12 @@ ghost use Rattle.steps.specs.Takes.{takes, took_in, fixed_lent, addresses_lent, 
 ghost use Rattle.steps.specs.Core.{Bounded};
 ghost use Rattle.arrivals.specs.Runs.{Ran};
 
+use output::array_from;
 use places::{Direction, LF};
 use plain::plain_lines;
-use queue::kinds_from;
 use records::layout::{LENT_COMMAND, LENT_KINDS, LENT_SIZE};
 use records::{Control, holdable};
-use rules::{Answer, Layer, Switches, number_of};
+use rules::{Answer, Layer, Switches};
 use running::{RunPart, any_run};
 use steps::{Written, next_octet};
 
@@ -52,10 +52,7 @@ pub fn take(
     ensures fixed { addresses_lent lent.new ≡ addresses_lent lent.old }
     ensures counts { Counted start → Counted result.control }
 {
-    if !holdable(start) {
-        return nothing_taken(start);
-    }
-    if lent.len() != LENT_SIZE {
+    if !holdable(start) || lent.len() != LENT_SIZE {
         return nothing_taken(start);
     }
     take_each(
@@ -120,6 +117,7 @@ fn take_each(
         client: 0,
     };
     let mut i = 0;
+    // No `for` over the octets: a turn goes past whole lines and runs.
     while i < octets.len() {
         let run = next_run(
             from_client,
@@ -149,14 +147,14 @@ fn take_each(
             control = rebuilt(o.control);
             written = o.written;
             let answer = o.answer;
-            if number_of(answer) != 0 {
+            let Answer::Done = answer else {
                 return Taken {
                     answer,
                     taken: i,
                     control,
                     written,
                 };
-            }
+            };
             i += 1;
         }
     }
@@ -238,24 +236,19 @@ fn next_run(
         written,
     );
     let j = plain.taken;
-    if octets.len() <= j {
+    if octets.len() <= j || octets[j] == LF {
         return plain;
     }
-    if octets[j] == LF {
-        return plain;
-    }
-    let then = plain.control;
-    let given = plain.written;
-    let kinds = kinds_from(&lent[LENT_KINDS..LENT_COMMAND]);
+    let kinds = array_from(&lent[LENT_KINDS..LENT_COMMAND]);
     any_run(
         from_client,
-        then,
+        plain.control,
         kinds,
         octets,
         j,
         &mut lent[LENT_COMMAND..],
         to_server,
         to_client,
-        given,
+        plain.written,
     )
 }

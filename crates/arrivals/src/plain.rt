@@ -2,6 +2,7 @@
 // lines are such. They are taken here with a few numbers in hand; any other goes the way of every octet. A plain line
 // of the client owes a plain kind, but others do too: a translated EPRT is no plain line.
 ghost use Rattle.std.specs.Prelude.{◌≡◌, true, false, ◌&&◌, List, [], ◌∷◌, ◌++◌, ℕ, ◌+◌, ◌-◌, ◌≤◌, ◌<◌, length, get_or};
+ghost use Rattle.std.specs.ControlFlow.{MatchControlFlow};
 ghost use Rattle.rules.specs.Octets.{lf, iac, is_not, every};
 ghost use Rattle.rules.specs.Answers.{client, server, most_owed};
 ghost use Rattle.rules.specs.Lines.{most_held};
@@ -25,14 +26,14 @@ use records::layout::{LENT_COMMAND, LENT_KINDS, LENT_REPLY, LENT_SIZE};
 use records::{Control, with_client, with_server};
 use rules::{OWED, ReplyLine, Telnet};
 use search::find_iac;
+use std::ops::ControlFlow;
 use steps::Written;
 use telnet::is_clear;
 
-// How far one plain line of the client, or several, reach, and whether another may follow; and how many octets are
-// held, replies owed and octets written then.
+// How far one plain line of the client, or several, reach; and how many octets are held, replies owed and octets
+// written then.
 #[derive(Clone, Copy)]
 pub struct Said {
-    pub more: bool,
     pub taken: usize,
     pub held: usize,
     pub owed: usize,
@@ -42,7 +43,6 @@ pub struct Said {
 // The same of the server, and the code that opened the reply in which it stands, or 0.
 #[derive(Clone, Copy)]
 pub struct Answered {
-    pub more: bool,
     pub taken: usize,
     pub held: usize,
     pub owed: usize,
@@ -66,10 +66,7 @@ fn text<'a>(held: usize, part: &'a [u8], line: &'a [u8]) -> &'a [u8]
 fn put_ended(out: &mut [u8], at: usize, octets: &[u8]) -> usize
     ensures { Put out.old at (octets.now ++ (lf ∷ [])) result out.new }
 {
-    if out.len() < at {
-        return at;
-    }
-    if out.len() - at <= octets.len() {
+    if out.len() < at || out.len() - at <= octets.len() {
         return at;
     }
     let next = put(out, at, octets);
@@ -85,13 +82,7 @@ fn may_end(octets: &[u8], j: usize, before: usize, line: &[u8], room: usize) -> 
         (result ≡ true
         → (j < length l) × (get_or l j 0 ≡ lf) × (length text < room) × (every (is_not iac) text ≡ true)) }
 {
-    if octets.len() <= j {
-        return false;
-    }
-    if octets[j] != LF {
-        return false;
-    }
-    if room <= line.len() {
+    if octets.len() <= j || octets[j] != LF || room <= line.len() {
         return false;
     }
     if before == 0 {
@@ -100,7 +91,7 @@ fn may_end(octets: &[u8], j: usize, before: usize, line: &[u8], room: usize) -> 
     line.len() <= find_iac(line, 0)
 }
 
-// The octets of a client line from i on, and its end if it is plain.
+// The octets of a client line from i on, and its end if it is plain: another may follow only then.
 fn client_line(
     held: usize,
     owed: usize,
@@ -109,12 +100,17 @@ fn client_line(
     lent: &mut [u8],
     to_server: &mut [u8],
     at: usize,
-) -> Said
+) -> ControlFlow<Said, Said>
     requires counts { (held ≤ most_held) × (owed < most_owed) × (is_still (kinds_lent lent.old) 0 owed ≡ true) }
     requires within { (i ≤ length octets.now) × (length lent.old ≡ lent_size) × (at ≤ length to_server.old) }
-    ensures ran { SaidPlain octets.now i held owed lent.old to_server.old at result
-        lent.new to_server.new }
-    ensures more { result.more ≡ true → i < result.taken }
+    ensures { let line = octets.now in
+        let before = lent.old in
+        let out = to_server.old in
+        let after = lent.new in
+        let then = to_server.new in
+        MatchControlFlow result
+        (λ said. SaidPlain line i held owed before out at said after then × (i < said.taken))
+        (λ said. SaidPlain line i held owed before out at said after then) }
 {
     let j = hold_run(octets, i, &mut lent[LENT_COMMAND..LENT_REPLY], held);
     let n = held + (j - i);
@@ -122,23 +118,22 @@ fn client_line(
     if may_end(octets, j, held, line, to_server.len() - at) {
         if commands::is_plain(line) {
             let next = put_ended(to_server, at, line);
+            // The number of a plain kind, as a record has it.
             lent[LENT_KINDS + owed] = 0;
-            return Said {
-                more: true,
+            return ControlFlow::Continue(Said {
                 taken: j + 1,
                 held: 0,
                 owed: owed + 1,
                 at: next,
-            };
+            });
         }
     }
-    Said {
-        more: false,
+    ControlFlow::Break(Said {
         taken: j,
         held: n,
         owed,
         at,
-    }
+    })
 }
 
 // Plain lines of a client that holds its octets, with `start` octets held.
@@ -161,18 +156,19 @@ fn client_lines(
     let mut owed = before;
     let mut at = first;
     let mut i = from;
+    // No `for` over the octets: a turn goes past a whole line.
     while i < octets.len() && owed < OWED {
-        let said = client_line(held, owed, octets, i, lent, to_server, at);
-        if !said.more {
-            return said;
+        match client_line(held, owed, octets, i, lent, to_server, at) {
+            ControlFlow::Break(said) => return said,
+            ControlFlow::Continue(said) => {
+                held = said.held;
+                owed = said.owed;
+                at = said.at;
+                i = said.taken;
+            }
         }
-        held = said.held;
-        owed = said.owed;
-        at = said.at;
-        i = said.taken;
     }
     Said {
-        more: false,
         taken: i,
         held,
         owed,
@@ -188,7 +184,7 @@ fn removed(reply: ReplyLine, owed: usize) -> usize
         ReplyLine::Opens(_) => 0,
         ReplyLine::Belongs => 0,
         ReplyLine::Preliminary => 0,
-        ReplyLine::Final => if owed == 0 { 0 } else { 1 },
+        ReplyLine::Final => owed.min(1),
         ReplyLine::StandsAlone => 0,
     }
 }
@@ -200,10 +196,8 @@ fn keeps_still(kinds: &[u8], inside: bool, removes: usize, owed: usize) -> bool
     if removes == 0 {
         return true;
     }
-    if !inside {
-        if !is_plain_first(kinds) {
-            return false;
-        }
+    if !inside && !is_plain_first(kinds) {
+        return false;
     }
     is_still(kinds, removes, owed)
 }
@@ -211,13 +205,10 @@ fn keeps_still(kinds: &[u8], inside: bool, removes: usize, owed: usize) -> bool
 fn is_plain_first(kinds: &[u8]) -> bool
     ensures { result ≡ is_plain_first kinds.now }
 {
-    if kinds.len() == 0 {
-        return true;
-    }
-    kinds[0] == 0
+    kinds.first().copied().unwrap_or(0) == 0
 }
 
-// The octets of a server line from i on, and its end if it is plain.
+// The octets of a server line from i on, and its end if it is plain: another may follow only then.
 fn server_line(
     held: usize,
     owed: usize,
@@ -227,12 +218,17 @@ fn server_line(
     lent: &mut [u8],
     to_client: &mut [u8],
     at: usize,
-) -> Answered
+) -> ControlFlow<Answered, Answered>
     requires counts { (held ≤ most_held) × (owed ≤ most_owed) × (is_still (kinds_lent lent.old) 0 owed ≡ true) }
     requires within { (i ≤ length octets.now) × (length lent.old ≡ lent_size) × (at ≤ length to_client.old) }
-    ensures ran { AnsweredPlain octets.now i held owed opening lent.old to_client.old at result
-        lent.new to_client.new }
-    ensures more { result.more ≡ true → i < result.taken }
+    ensures { let line = octets.now in
+        let before = lent.old in
+        let out = to_client.old in
+        let after = lent.new in
+        let then = to_client.new in
+        MatchControlFlow result
+        (λ answered. AnsweredPlain line i held owed opening before out at answered after then × (i < answered.taken))
+        (λ answered. AnsweredPlain line i held owed opening before out at answered after then) }
 {
     let j = hold_run(octets, i, &mut lent[LENT_REPLY..LENT_SIZE], held);
     let n = held + (j - i);
@@ -245,24 +241,22 @@ fn server_line(
             let line = text(held, &octets[i..j], &lent[LENT_REPLY..LENT_REPLY + n]);
             let next = put_ended(to_client, at, line);
             shift(&mut lent[LENT_KINDS..LENT_COMMAND], removes, owed);
-            return Answered {
-                more: true,
+            return ControlFlow::Continue(Answered {
                 taken: j + 1,
                 held: 0,
                 owed: owed - removes,
                 opening: replies::opening_after(opening, reply),
                 at: next,
-            };
+            });
         }
     }
-    Answered {
-        more: false,
+    ControlFlow::Break(Answered {
         taken: j,
         held: n,
         owed,
         opening,
         at,
-    }
+    })
 }
 
 // Plain lines of a server that holds its octets, with `start` octets held and the reply of this code open, or none.
@@ -287,19 +281,20 @@ fn server_lines(
     let mut opening = code;
     let mut at = first;
     let mut i = from;
+    // No `for` over the octets: a turn goes past a whole line.
     while i < octets.len() {
-        let answered = server_line(held, owed, opening, octets, i, lent, to_client, at);
-        if !answered.more {
-            return answered;
+        match server_line(held, owed, opening, octets, i, lent, to_client, at) {
+            ControlFlow::Break(answered) => return answered,
+            ControlFlow::Continue(answered) => {
+                held = answered.held;
+                owed = answered.owed;
+                opening = answered.opening;
+                at = answered.at;
+                i = answered.taken;
+            }
         }
-        held = answered.held;
-        owed = answered.owed;
-        opening = answered.opening;
-        at = answered.at;
-        i = answered.taken;
     }
     Answered {
-        more: false,
         taken: i,
         held,
         owed,
@@ -312,10 +307,7 @@ fn server_lines(
 fn may_run(direction: Direction, telnet: Telnet) -> bool
     ensures { result ≡ (is_holding direction.place && is_clear telnet) }
 {
-    if !is_holding(direction) {
-        return false;
-    }
-    is_clear(telnet)
+    is_holding(direction) && is_clear(telnet)
 }
 
 // Plain lines of the client from i on, where it holds its octets.
@@ -339,9 +331,7 @@ fn plain_commands(
     ensures fixed { addresses_lent lent.new ≡ addresses_lent lent.old }
 {
     let direction = control.client;
-    let layer = control.up;
-    let telnet = layer.telnet;
-    if !may_run(direction, telnet) {
+    if !may_run(direction, control.up.telnet) {
         return RunPart {
             taken: i,
             control,
@@ -392,9 +382,7 @@ fn plain_replies(
     ensures fixed { addresses_lent lent.new ≡ addresses_lent lent.old }
 {
     let direction = control.server;
-    let layer = control.down;
-    let telnet = layer.telnet;
-    if !may_run(direction, telnet) {
+    if !may_run(direction, control.down.telnet) {
         return RunPart {
             taken: i,
             control,

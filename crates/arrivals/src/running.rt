@@ -49,28 +49,13 @@ fn is_settled(control: Control, kinds: Kinds) -> bool
         return true;
     }
     let server = control.server;
-    if server.held != 0 {
-        return false;
-    }
-    let down = control.down;
-    let unfinished = down.telnet;
-    if !is_clear(unfinished) {
+    if server.held != 0 || !is_clear(control.down.telnet) {
         return false;
     }
     if is_passing(server) {
         return true;
     }
     has_ended(server)
-}
-
-// No more than either.
-fn least(a: usize, b: usize) -> usize
-    ensures { (result ≤ a) × (result ≤ b) }
-{
-    if a < b {
-        return a;
-    }
-    b
 }
 
 // Where the ordinary octets from i on end, those that are neither LF nor 255, or where `most` of them do. Only so far
@@ -80,7 +65,7 @@ fn run_end(octets: &[u8], i: usize, most: usize) -> usize
     ensures within { (i ≤ result) × (result ≤ length octets.now) × (result - i ≤ most) }
     ensures run { every is_ordinary (take (result - i) (drop i octets.now)) ≡ true }
 {
-    let e = i + least(octets.len() - i, most);
+    let e = i + (octets.len() - i).min(most);
     // An octet that arrives alone is looked at here, which costs less than a search.
     if e - i == 1 {
         if is_ordinary(octets[i]) {
@@ -119,7 +104,7 @@ fn given_end(direction: Direction, octets: &[u8], i: usize, most: usize) -> usiz
         return run_end(octets, i, most);
     }
     if is_passing(direction) {
-        return i + least(octets.len() - i, most);
+        return i + (octets.len() - i).min(most);
     }
     i
 }
@@ -191,8 +176,7 @@ pub fn any_run(
         return none;
     }
     let layer = layer_of(control, from_client);
-    let telnet = layer.telnet;
-    if !is_clear(telnet) {
+    if !is_clear(layer.telnet) {
         return none;
     }
     if !is_settled(control, kinds) {

@@ -6,11 +6,11 @@
 // each, those written, and the offsets.
 #![tactic(auto)]
 
-ghost use Rattle.std.specs.Prelude.{◌≡◌, ◌≤◌, length};
+ghost use Rattle.std.specs.Prelude.{◌≡◌, ◌<◌, length, IfSome};
 
-use counts::DirectionOffset;
+use places::first_octets;
 use records::Session;
-use rules::{SETUP, number_of};
+use rules::SETUP;
 use session::Called;
 use std::io;
 use std::io::{BufWriter, Write};
@@ -21,6 +21,16 @@ const MOST: u64 = 65536;
 // As much room as a call can ask for, and one octet more.
 const ROOM: usize = 65536;
 
+// A call as a script tells it.
+#[derive(Drop)]
+struct Call<'a> {
+    ends: bool,
+    direction: u8,
+    server_room: u16,
+    client_room: u16,
+    octets: &'a [u8],
+}
+
 fn main(rt: HostRuntime) -> io::Result<()> {
     let input = streams::read_most(rt.alloc(), rt.reader(), MOST)?;
     let mut out = BufWriter::new(rt.alloc(), io::writer(&rt))?;
@@ -29,116 +39,86 @@ fn main(rt: HostRuntime) -> io::Result<()> {
 }
 
 fn run_scripts(out: &mut impl Write, input: &[u8]) -> io::Result<()> {
-    let mut at = 0;
-    let mut next = script_end(input, at);
-    while at < next {
-        run_script(out, after(&input[at..next], 4))?;
-        at = next;
-        next = script_end(input, at);
+    let mut rest = input;
+    while let Some((script, behind)) = split_script(rest) {
+        run_script(out, script)?;
+        rest = behind;
     }
     Ok(())
 }
 
-// Where the script ends whose length stands at `at`; 0 where there is no whole one.
-fn script_end(input: &[u8], at: usize) -> usize
-    ensures { result ≤ length input.now }
+// The script in front, and what stands behind it; none where there is no whole one.
+fn split_script(input: &[u8]) -> Option<(&[u8], &[u8])>
+    ensures { IfSome result (λ p. length p.1.now < length input.now) }
 {
-    if input.len() < at {
-        return 0;
-    }
-    let left = input.len() - at;
-    let rest = after(input, at);
-    let n = pair(rest, 0) as usize * 65536 + pair(rest, 2) as usize;
-    if left < 4 {
-        return 0;
-    }
-    if left - 4 < n {
-        return 0;
-    }
-    at + 4 + n
+    let (size, rest) = input.split_first_chunk::<4>()?;
+    rest.split_at_checked(u32::from_be_bytes(*size) as usize)
 }
 
 // Runs a script twice: its results are measured before they are written.
 fn run_script(out: &mut impl Write, script: &[u8]) -> io::Result<()> {
-    if script.len() < SETUP {
+    let Some((setup, calls)) = script.split_at_checked(SETUP) else {
         return write_number(out, 0);
-    }
-    let p = setups::setup_from(first(script, SETUP));
-    let answer = p.answer;
-    let start = p.session;
-    let length = run_calls(out, start, script, false)?;
-    write_number(out, sum(length, 1))?;
-    write_octet(out, number_of(answer))?;
-    run_calls(out, start, script, true)?;
+    };
+    let prepared = setups::setup_from(setup);
+    let length = run_calls(out, prepared.session, calls, false)?;
+    write_number(out, length.wrapping_add(1))?;
+    write_octet(out, u8::from(prepared.answer))?;
+    run_calls(out, prepared.session, calls, true)?;
     Ok(())
 }
 
 // How long the results of a script's calls are; they are written where that is asked for.
-fn run_calls(out: &mut impl Write, start: Session, script: &[u8], writes: bool) -> io::Result<u32> {
+fn run_calls(out: &mut impl Write, start: Session, calls: &[u8], writes: bool) -> io::Result<u32> {
     let mut to_server = [0u8; ROOM];
     let mut to_client = [0u8; ROOM];
     let mut session = start;
-    let mut length = 0;
-    let mut at = SETUP;
-    let mut next = call_end(script, at);
-    while at < next {
-        let called = run_call(session, &script[at..next], &mut to_server, &mut to_client);
+    let mut length = 0u32;
+    let mut rest = calls;
+    while let Some((call, behind)) = split_call(rest) {
+        let called = run_call(session, call, &mut to_server, &mut to_client);
         if writes {
             write_called(out, called, &to_server, &to_client)?;
         }
         session = called.session;
-        length = sum(length, called_length(called));
-        at = next;
-        next = call_end(script, at);
+        length = length.wrapping_add(called_length(called));
+        rest = behind;
     }
     Ok(length)
 }
 
-// Where the call ends that starts at `at`; 0 where there is no whole one.
-fn call_end(script: &[u8], at: usize) -> usize
-    ensures { result ≤ length script.now }
+// The call in front, and what stands behind it; none where there is no whole one.
+fn split_call(calls: &[u8]) -> Option<(Call<'_>, &[u8])>
+    ensures { IfSome result (λ p. length p.1.now < length calls.now) }
 {
-    if script.len() < at {
-        return 0;
+    let (head, rest) = calls.split_first_chunk::<8>()?;
+    if head[0] > 1 {
+        return None;
     }
-    let left = script.len() - at;
-    let rest = after(script, at);
-    let n = pair(rest, 6) as usize;
-    if 1 < octet(rest, 0) {
-        return 0;
-    }
-    if left < 8 {
-        return 0;
-    }
-    if left - 8 < n {
-        return 0;
-    }
-    at + 8 + n
+    let size = u16::from_be_bytes([head[6], head[7]]);
+    let (octets, behind) = rest.split_at_checked(size as usize)?;
+    let call = Call {
+        ends: head[0] == 1,
+        direction: head[1],
+        server_room: u16::from_be_bytes([head[2], head[3]]),
+        client_room: u16::from_be_bytes([head[4], head[5]]),
+        octets,
+    };
+    Some((call, behind))
 }
 
 // An arrival or an end, with as much of each buffer as the call has room for.
-fn run_call(session: Session, call: &[u8], to_server: &mut [u8], to_client: &mut [u8]) -> Called
+fn run_call(session: Session, call: Call<'_>, to_server: &mut [u8], to_client: &mut [u8]) -> Called
     requires server { length to_server.old ≡ 65536 }
     requires client { length to_client.old ≡ 65536 }
 {
-    let direction = octet(call, 1);
-    let server_room = pair(call, 2) as usize;
-    let client_room = pair(call, 4) as usize;
-    if octet(call, 0) == 1 {
-        return session::end(
-            session,
-            direction,
-            &mut to_server[..server_room],
-            &mut to_client[..client_room],
-        );
+    let to_server = &mut to_server[..call.server_room as usize];
+    let to_client = &mut to_client[..call.client_room as usize];
+    if call.ends {
+        session::end(session, call.direction, to_server, to_client)
+    } else {
+        session::arrive(session, call.direction, call.octets, to_server, to_client)
     }
-    session::arrive(
-        session,
-        direction,
-        after(call, 8),
-        &mut to_server[..server_room],
-        &mut to_client[..client_room],
-    )
 }
 
 fn write_called(
@@ -147,30 +127,25 @@ fn write_called(
     to_server: &[u8],
     to_client: &[u8],
 ) -> io::Result<()> {
-    let answer = called.answer;
-    let written = called.written;
-    let session = called.session;
-    write_octet(out, number_of(answer))?;
+    write_octet(out, u8::from(called.answer))?;
     write_number(out, low_half(called.taken))?;
-    write_number(out, low_half(written.server))?;
-    write_number(out, low_half(written.client))?;
-    out.write_all(first(to_server, written.server))?;
-    out.write_all(first(to_client, written.client))?;
-    write_number(out, offset(session, 0))?;
-    write_number(out, offset(session, 1))
+    write_number(out, low_half(called.written.server))?;
+    write_number(out, low_half(called.written.client))?;
+    out.write_all(first_octets(to_server, called.written.server))?;
+    out.write_all(first_octets(to_client, called.written.client))?;
+    write_number(out, offset(called.session, 0))?;
+    write_number(out, offset(called.session, 1))
 }
 
 // How long the result of a call is: one octet, five numbers, and what was written.
 fn called_length(called: Called) -> u32 {
-    let written = called.written;
-    sum(21, sum(low_half(written.server), low_half(written.client)))
+    low_half(called.written.server)
+        .wrapping_add(low_half(called.written.client))
+        .wrapping_add(21)
 }
 
 fn offset(session: Session, direction: u8) -> u32 {
-    match counts::offset(session, direction) {
-        DirectionOffset::Is(n) => n,
-        DirectionOffset::UnknownDirection => 0,
-    }
+    counts::offset(session, direction).unwrap_or(0)
 }
 
 fn write_octet(out: &mut impl Write, x: u8) -> io::Result<()> {
@@ -182,38 +157,6 @@ fn write_number(out: &mut impl Write, n: u32) -> io::Result<()> {
     out.write_all(&n.to_be_bytes())
 }
 
-fn sum(a: u32, b: u32) -> u32 {
-    a.wrapping_add(b)
-}
-
 fn low_half(n: usize) -> u32 {
     (n % 4294967296) as u32
-}
-
-// The number in two octets from i on, high first; octets that are not there count as 0.
-fn pair(s: &[u8], i: u8) -> u16 {
-    octet(s, i as usize) as u16 * 256 + octet(s, i as usize + 1) as u16
-}
-
-fn octet(s: &[u8], i: usize) -> u8 {
-    if i < s.len() {
-        return s[i];
-    }
-    0
-}
-
-// The first n octets.
-fn first(s: &[u8], n: usize) -> &[u8] {
-    if n > s.len() {
-        return s;
-    }
-    &s[..n]
-}
-
-// What follows the first n octets.
-fn after(s: &[u8], n: usize) -> &[u8] {
-    if n > s.len() {
-        return s;
-    }
-    &s[n..]
 }

@@ -2,7 +2,7 @@
 use mathlib.Core.Path.{◌≡◌, refl, sym}
 use mathlib.Core.Bool.{Bool, true, false}
 use mathlib.Core.List.{List, [], ◌∷◌}
-use mathlib.Core.Option.{some, none}
+use Rattle.std.specs.Prelude.{Option, Some, None}
 use Prim.Native.Nat.{ℕ, ◌+◌, ◌<◌}
 use native.Mathlib.Omega.{arith}
 use borrow.Author.Tests.{eq-eqb, ne_eqb}
@@ -11,8 +11,7 @@ use lib.ListN.{length, drop}
 use Rattle.rules.specs.Octets.{oct, choose, is_empty, within, every, run, digit, value, number, alike}
 use Rattle.rules.specs.Commands.{epsv_argument}
 use Rattle.rules.specs.declared.EpsvArgument.{EpsvArgument}
-use Rattle.octets.specs.Numbers.{number_read, between}
-use Rattle.octets.specs.declared.Number.{Number}
+use Rattle.octets.specs.Numbers.{between}
 use Rattle.octets.proofs.Ranges.{is_within, within-bounds}
 use Rattle.octets.proofs.Runs.{run_length, every-reached, every-short}
 use Rattle.octets.proofs.Values.{number_digits}
@@ -48,17 +47,17 @@ within_by n v false h =
     (λ e. let inside = is_within n n v (omega arith) (omega arith) in let z : ◌≡◌ {A = ℕ} 0 1 = cc in omega arith))
 
 -- what the code makes of a protocol number that it read
-abbrev pub asks : Number → EpsvArgument
-asks (Number.Value n) = EpsvArgument.Passive
-asks Number.Unreadable = EpsvArgument.OtherProtocol
+abbrev pub asks : Option ℕ → EpsvArgument
+asks (Some n) = EpsvArgument.Passive
+asks None = EpsvArgument.OtherProtocol
 
-asks-by : (v : ℕ) (b : Bool) → asks (number_read (choose b (some v) none)) ≡ choose b EpsvArgument.Passive EpsvArgument.OtherProtocol
-unfolding number_read choose
+asks-by : (v : ℕ) (b : Bool) → asks (choose b (Some v) None) ≡ choose b EpsvArgument.Passive EpsvArgument.OtherProtocol
+unfolding choose
 asks-by v true = refl
 asks-by v false = refl
 
 -- the digits of one number n, read as n to n, are that number or are not
-pub asks-for : (n : ℕ) (s : List ℕ) (r : Number) → 0 < length s → every digit s ≡ true → r ≡ number_read (number (length s) n n s) → asks r ≡ choose (eqb (value s) n) EpsvArgument.Passive EpsvArgument.OtherProtocol
+pub asks-for : (n : ℕ) (s : List ℕ) (r : Option ℕ) → 0 < length s → every digit s ≡ true → r ≡ number (length s) n n s → asks r ≡ choose (eqb (value s) n) EpsvArgument.Passive EpsvArgument.OtherProtocol
 unfolding between
 asks-for n s r h d e =
     rw (e, number_digits (length s) n n s (is_within 1 (length s) (length s) (omega arith) (omega arith)) d, within_by n (value s) _ refl)

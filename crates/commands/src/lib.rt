@@ -9,10 +9,7 @@ ghost use Rattle.rules.specs.Commands.{algs_command};
 ghost use Rattle.rules.specs.Commands.{algs_argument, command as command_of};
 ghost use Rattle.commands.specs.Plain.{is_plain};
 
-use rules::{
-    AlgsArgument, Command, CommandWord, EprtArgument, EpsvArgument, Fixed, IPV6, OwnAnswer,
-    Switches,
-};
+use rules::{AlgsArgument, Command, CommandWord, EpsvArgument, Fixed, IPV6, OwnAnswer, Switches};
 
 // Which of the command words a word is, without regard to letter case.
 fn command_word(word: &[u8]) -> CommandWord
@@ -41,10 +38,8 @@ pub fn content_word(content: &[u8]) -> CommandWord
     if n < 4 {
         return CommandWord::Other;
     }
-    if 4 < n {
-        if content[4] != 32 {
-            return CommandWord::Other;
-        }
+    if n > 4 && content[4] != b' ' {
+        return CommandWord::Other;
     }
     command_word(&content[..4])
 }
@@ -53,21 +48,17 @@ pub fn content_word(content: &[u8]) -> CommandWord
 pub fn is_plain(line: &[u8]) -> bool
     ensures { result ≡ is_plain line.now }
 {
-    match content_word(lines::content(line)) {
-        CommandWord::Other => true,
-        _ => false,
-    }
+    matches!(content_word(lines::content(line)), CommandWord::Other)
 }
 
 // What the argument of EPSV asks for.
 pub fn epsv_argument(argument: &[u8]) -> EpsvArgument
     ensures { result ≡ epsv_argument argument.now }
 {
-    let n = argument.len();
-    if n == 0 {
+    if argument.is_empty() {
         return EpsvArgument::Passive;
     }
-    if octets::digits_end(argument, 0) == n {
+    if octets::digits_end(argument, 0) == argument.len() {
         return protocol(argument);
     }
     if octets::alike(argument, b"ALL") {
@@ -82,8 +73,8 @@ fn protocol(digits: &[u8]) -> EpsvArgument
     ensures { result ≡ choose (eqb (value digits.now) 2) EpsvArgument.Passive EpsvArgument.OtherProtocol }
 {
     match octets::read_number(digits, digits.len(), 2, 2) {
-        octets::Number::Value(_) => EpsvArgument::Passive,
-        octets::Number::Unreadable => EpsvArgument::OtherProtocol,
+        Some(_) => EpsvArgument::Passive,
+        None => EpsvArgument::OtherProtocol,
     }
 }
 
@@ -107,10 +98,7 @@ pub fn algs_argument(argument: &[u8]) -> AlgsArgument
 pub fn starts_auth(line: &[u8]) -> bool
     ensures { result ≡ starts_auth line.now }
 {
-    if line.len() < 5 {
-        return false;
-    }
-    octets::alike(&line[..5], b"AUTH ")
+    line.len() >= 5 && octets::alike(&line[..5], b"AUTH ")
 }
 
 // With EPSV translation on or off, what EPSV is.
@@ -136,8 +124,8 @@ fn eprt_command(on: bool, argument: &[u8], client: [u8; IPV6]) -> Command
         return Command::Passes;
     }
     match eprt::eprt_argument(argument, client) {
-        EprtArgument::Port(port) => Command::Port(port),
-        EprtArgument::Other => Command::Passes,
+        Some(port) => Command::Port(port),
+        None => Command::Passes,
     }
 }
 

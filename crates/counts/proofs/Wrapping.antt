@@ -1,8 +1,8 @@
 -- Counts in 32 bits that wrap, and their difference.
+use Rattle.std.specs.Prelude.{None, Some}
 use Rattle.std.proofs.Common.{◌≡◌, ℕ, zero, suc, ◌+◌, ◌-◌, ◌%◌, ◌^◌, ◌<◌, ◌≤◌, Bool, true, false, ltb, sym, refl, ap, ◌∙◌, mod-eq_of_lt, arith, ltb-false, ltb-true}
 use native.Mathlib.Nat.{add-mod-mod, add-mod_right}
 use Rattle.rules.specs.Answers.{Side, client, server, wrapped, offset_of}
-use Rattle.counts.specs.declared.DirectionOffset.{DirectionOffset}
 use Rattle.records.specs.declared.Counts.{Counts}
 use Rattle.records.specs.declared.Session.{Session}
 use Rattle.counts.specs.Counts.{counted, taken_for, offset}
@@ -42,13 +42,13 @@ difference r written taken h e =
     let small : written % 2 ^ 32 ≡ written = omega arith in
     rw small (turns (2 ^ 32) r t written h (omega arith) same (ltb (r + t) (2 ^ 32)) refl)
 
-pub other-direction : (s : Session) (d : ℕ) → 2 ≤ d → DirectionOffset.UnknownDirection ≡ offset s d
+pub other-direction : (s : Session) (d : ℕ) → 2 ≤ d → None ≡ offset s d
 unfolding offset
 other-direction s zero h = absurd (omega arith)
 other-direction s (suc zero) h = absurd (omega arith)
 other-direction s (suc (suc d)) h = refl
 
-zero_of : (s : Session) (d : ℕ) → d < 2 → (d ≡ 1 → ⊥) → offset s d ≡ DirectionOffset.Is (offset_of s.up.written s.up.taken)
+zero_of : (s : Session) (d : ℕ) → d < 2 → (d ≡ 1 → ⊥) → offset s d ≡ Some (offset_of s.up.written s.up.taken)
 unfolding offset
 zero_of s zero h n = refl
 zero_of s (suc zero) h n = absurd (n refl)
@@ -59,9 +59,9 @@ module _ (s : Session) (d : ℕ) {r : ℕ} {k : Counts} (small : r < 2 ^ 32) (ba
   of : (m : Counts) → k ≡ m → r ≡ offset_of m.written m.taken
   of m p = rw (← p) (difference r k.written k.taken small back)
 
-  pub server-offset : d ≡ 1 → k ≡ s.down → DirectionOffset.Is r ≡ offset s d
+  pub server-offset : d ≡ 1 → k ≡ s.down → Some r ≡ offset s d
   unfolding offset
-  server-offset e p = rw e (ap DirectionOffset.Is (of s.down p))
+  server-offset e p = rw e (ap Some (of s.down p))
 
-  pub client-offset : d < 2 → (d ≡ 1 → ⊥) → k ≡ s.up → DirectionOffset.Is r ≡ offset s d
-  client-offset h n p = rw (zero_of s d h n) (ap DirectionOffset.Is (of s.up p))
+  pub client-offset : d < 2 → (d ≡ 1 → ⊥) → k ≡ s.up → Some r ≡ offset s d
+  client-offset h n p = rw (zero_of s d h n) (ap Some (of s.up p))

@@ -16,13 +16,6 @@ pub struct BothCounts {
     pub down: Counts,
 }
 
-// A direction's offset, for a direction that there is.
-#[derive(Clone, Copy)]
-pub enum DirectionOffset {
-    Is(u32),
-    UnknownDirection,
-}
-
 // What both directions count after a call on one of them: octets taken count for the direction that they came from.
 pub fn counts_then(
     up: Counts,
@@ -80,15 +73,15 @@ pub fn written_from(from_client: bool, n: usize) -> Written
 }
 
 // The offset of a direction: written minus taken, modulo 2^32.
-pub fn offset(session: Session, direction: u8) -> DirectionOffset
+pub fn offset(session: Session, direction: u8) -> Option<u32>
     ensures { result ≡ offset_in session direction }
 {
     if 2 <= direction {
-        return DirectionOffset::UnknownDirection;
+        return None;
     }
     let mut counts = session.up;
     if direction == 1 {
         counts = session.down;
     }
-    DirectionOffset::Is(std::num::wrapping_sub_u32(counts.written, counts.taken))
+    Some(std::num::wrapping_sub_u32(counts.written, counts.taken))
 }

@@ -5,50 +5,22 @@
 
 use std::io;
 
-const PORTS: u32 = 65536;
-
 // Five digits, and an octet on either side that has to stay.
 const ROOM: usize = 7;
 
 fn main(rt: HostRuntime) -> io::Result<()> {
-    let ports = written_alike();
-    if ports < PORTS {
-        return println!(rt; "written otherwise: port {ports}");
+    match (0..=u16::MAX).find(|port| !is_alike(*port)) {
+        Some(port) => println!(rt; "written otherwise: port {port}"),
+        None => println!(rt; "65536 ports written alike"),
     }
-    println!(rt; "{ports} ports written alike")
-}
-
-// How many ports from 0 on are written alike.
-fn written_alike() -> u32 {
-    let mut port: u32 = 0;
-    while port < PORTS {
-        if !is_alike(port as u16) {
-            return port;
-        }
-        port += 1;
-    }
-    port
 }
 
 fn is_alike(port: u16) -> bool {
     let mut old = [b'-'; ROOM];
     let mut new = [b'-'; ROOM];
-    let next = put_by_tens(&mut old, 1, port);
-    if output::put_decimal(&mut new, 1, port) != next {
-        return false;
-    }
-    same(&old, &new)
-}
-
-fn same(a: &[u8; ROOM], b: &[u8; ROOM]) -> bool {
-    let mut i = 0;
-    while i < ROOM {
-        if a[i] != b[i] {
-            return false;
-        }
-        i += 1;
-    }
-    true
+    let old_end = put_by_tens(&mut old, 1, port);
+    let new_end = output::put_decimal(&mut new, 1, port);
+    old_end == new_end && old == new
 }
 
 // The number as it was put before.
@@ -69,5 +41,5 @@ fn put_by_tens(out: &mut [u8], at: usize, n: u16) -> usize {
 }
 
 fn digit(n: u16) -> u8 {
-    48 + (n % 10) as u8
+    b'0' + (n % 10) as u8
 }

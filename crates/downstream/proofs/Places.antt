@@ -1,4 +1,6 @@
 -- A server octet by the place of its direction, as the code takes it apart.
+use Rattle.rules.specs.declared.Kind.{Kind}
+use Rattle.std.specs.Prelude.{Option}
 use mathlib.Core.Path.{◌≡◌, refl, sym, ap}
 use mathlib.Core.Bool.{Bool, true, false}
 use mathlib.Core.List.{List}
@@ -9,11 +11,10 @@ use Rattle.rules.specs.declared.Fixed.{Fixed}
 use Rattle.places.specs.declared.Place.{Place}
 use Rattle.places.specs.declared.Direction.{Direction}
 use Rattle.gives.specs.declared.Gives.{Gives}
-use Rattle.queue.specs.declared.Owes.{Owes}
 use Rattle.places.specs.Places.{at}
 use Rattle.downstream.specs.Downstream.{server_effect_of, flowing_line, reply_effect, server_effect}
 
-module _ (f : Fixed) (u : ℕ) (o : Owes) where
+module _ (f : Fixed) (u : ℕ) (o : Option Kind) where
   pub server-place : (d : Direction) (line : List ℕ) (x : ℕ) {p : Place} → d.place ≡ p
       → reply_effect f u o p d.held line (eqb x lf) ≡ server_effect f u o d line x
   unfolding server_effect

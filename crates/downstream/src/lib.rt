@@ -12,8 +12,7 @@ ghost use Rattle.downstream.specs.Downstream.{reply_effect, server_effect, serve
 
 use gives::Gives;
 use places::{Direction, LF, Place, first_octets, is_held};
-use queue::Owes;
-use rules::{Fixed, IPV4, Kind, PassiveReply, ReplyLine};
+use rules::{Fixed, IPV4, Kind, ReplyLine};
 
 // What a server octet does on the server's side; also how many owed kinds it removes, and the code of the reply that
 // is open then.
@@ -37,16 +36,13 @@ fn kind_removed(kind: Kind) -> usize
     }
 }
 
-fn head_removed(first: Owes) -> usize
+fn head_removed(first: Option<Kind>) -> usize
     ensures { result ≡ head_removed first }
 {
-    match first {
-        Owes::Nothing => 0,
-        Owes::One(kind) => kind_removed(kind),
-    }
+    first.map_or(0, kind_removed)
 }
 
-fn line_removes(reply: ReplyLine, first: Owes) -> usize
+fn line_removes(reply: ReplyLine, first: Option<Kind>) -> usize
     ensures { result ≡ line_removes reply first }
 {
     match reply {
@@ -76,8 +72,8 @@ fn passive_gives(fixed: Fixed, content: &[u8]) -> Gives
     ensures { result ≡ passive_effect fixed (passive_reply content.now) }
 {
     match replies::passive_reply(content) {
-        PassiveReply::At(a, b, c, d, port) => named_gives(is_foreign(fixed, [a, b, c, d]), port),
-        PassiveReply::Unreadable => Gives::HeldAndOctet,
+        Some(named) => named_gives(is_foreign(fixed, named.address), named.port),
+        None => Gives::HeldAndOctet,
     }
 }
 
@@ -94,33 +90,17 @@ fn named_gives(refused: bool, port: u16) -> Gives
 fn is_foreign(fixed: Fixed, address: [u8; IPV4]) -> bool
     ensures { result ≡ foreign fixed address }
 {
-    if !fixed.strict {
-        return false;
-    }
-    let server = fixed.server;
-    if address[0] != server[0] {
-        return true;
-    }
-    if address[1] != server[1] {
-        return true;
-    }
-    if address[2] != server[2] {
-        return true;
-    }
-    address[3] != server[3]
+    fixed.strict && address != fixed.server
 }
 
-fn head_gives(fixed: Fixed, first: Owes, content: &[u8]) -> Gives
+fn head_gives(fixed: Fixed, first: Option<Kind>, content: &[u8]) -> Gives
     ensures { result ≡ head_effect fixed first content.now }
 {
-    match first {
-        Owes::Nothing => Gives::HeldAndOctet,
-        Owes::One(kind) => kind_gives(fixed, kind, content),
-    }
+    first.map_or(Gives::HeldAndOctet, |kind| kind_gives(fixed, kind, content))
 }
 
 // What a line gives that ends a final reply: itself, unless it is the only one of its reply.
-fn final_gives(fixed: Fixed, opening: u32, first: Owes, content: &[u8]) -> Gives
+fn final_gives(fixed: Fixed, opening: u32, first: Option<Kind>, content: &[u8]) -> Gives
     ensures { result ≡ choose (is_open opening) Gives.HeldAndOctet (head_effect fixed first content.now) }
 {
     if opening != 0 {
@@ -130,7 +110,13 @@ fn final_gives(fixed: Fixed, opening: u32, first: Owes, content: &[u8]) -> Gives
 }
 
 // What a line judged whole gives: itself, unless it ends a final reply.
-fn line_gives(fixed: Fixed, reply: ReplyLine, opening: u32, first: Owes, content: &[u8]) -> Gives
+fn line_gives(
+    fixed: Fixed,
+    reply: ReplyLine,
+    opening: u32,
+    first: Option<Kind>,
+    content: &[u8],
+) -> Gives
     ensures { result ≡ line_gives fixed reply opening first content.now }
 {
     match reply {
@@ -143,7 +129,7 @@ fn line_gives(fixed: Fixed, reply: ReplyLine, opening: u32, first: Owes, content
 }
 
 // The LF of a server line that is judged whole.
-fn whole_line(fixed: Fixed, opening: u32, first: Owes, content: &[u8]) -> ServerEffect
+fn whole_line(fixed: Fixed, opening: u32, first: Option<Kind>, content: &[u8]) -> ServerEffect
     ensures { result ≡ whole_line fixed opening first content.now }
 {
     let reply = replies::reply_line(opening, content);
@@ -159,7 +145,7 @@ fn whole_line(fixed: Fixed, opening: u32, first: Owes, content: &[u8]) -> Server
 }
 
 // The LF of a server line that flows, whose first four octets are still in the array.
-fn flowing_line(opening: u32, first: Owes, line: &[u8]) -> ServerEffect
+fn flowing_line(opening: u32, first: Option<Kind>, line: &[u8]) -> ServerEffect
     ensures { result ≡ flowing_line opening first line.now }
 {
     let reply = replies::reply_line(opening, first_octets(line, 4));
@@ -200,7 +186,7 @@ fn reply_octet(opening: u32, held: usize) -> ServerEffect
 fn hold_reply(
     fixed: Fixed,
     opening: u32,
-    first: Owes,
+    first: Option<Kind>,
     held: usize,
     line: &[u8],
     x: u8,
@@ -219,7 +205,7 @@ fn hold_reply(
 }
 
 // An octet of a server line that flows.
-fn flow_reply(opening: u32, first: Owes, line: &[u8], x: u8) -> ServerEffect
+fn flow_reply(opening: u32, first: Option<Kind>, line: &[u8], x: u8) -> ServerEffect
     ensures { result ≡ choose (eqb x lf) (flowing_line opening first line.now)
         (server_effect_of Gives.LineOctet (direction_at Place.Flowing 0) 0 opening) }
 {
@@ -233,7 +219,7 @@ fn flow_reply(opening: u32, first: Owes, line: &[u8], x: u8) -> ServerEffect
 pub fn server_effect(
     fixed: Fixed,
     opening: u32,
-    first: Owes,
+    first: Option<Kind>,
     direction: Direction,
     line: &[u8],
     x: u8,

@@ -1,129 +1,99 @@
--- The argument of EPRT by the positions of its delimiters, and its fields by what each was read as.
+-- The argument of EPRT by the parts between its delimiters, and its fields by what each was read as.
 use mathlib.Core.Path.{◌≡◌, refl, sym, ap, ◌∙◌}
-use mathlib.Core.Bool.{Bool, true, false, and-true, and-false}
+use mathlib.Core.Bool.{Bool, true, false, and-false}
 use mathlib.Core.List.{List, [], ◌∷◌}
-use mathlib.Core.Option.{Option, none, some}
-use Prim.Native.Nat.{ℕ, ◌+◌, ◌-◌, ◌<◌, ◌≤◌}
+use Rattle.std.specs.Prelude.{None, Some}
+use Prim.Native.Nat.{ℕ, ◌<◌}
 use native.Mathlib.Omega.{arith}
-use borrow.Author.Tests.{ltb-true, ltb-false, eq-eqb, ne_eqb}
-use lib.Dec.{ltb, eqb}
-use lib.ListN.{length, get_or, take, drop, length-drop, drop_of_length-le}
-use Rattle.rules.specs.Octets.{choose, is_not, run, within, equal, onto_first, parts, number}
+use borrow.Author.Tests.{eq-eqb}
+use lib.Dec.{eqb}
+use lib.ListN.{length}
+use Rattle.rules.specs.Octets.{choose, within, equal, onto_first, parts, number}
 use Rattle.rules.specs.Address.{ipv6}
-use Rattle.rules.specs.Commands.{three_fields, is_address, port_argument, fields_argument, eprt_argument}
-use Rattle.rules.specs.declared.EprtArgument.{EprtArgument}
-use Rattle.octets.proofs.Words.{equal-lengths}
-use Rattle.address.specs.declared.Ipv6Read.{Ipv6Read}
-use Rattle.address.specs.Text.{ipv6_read}
-use Rattle.address.proofs.Parts.{part_at, part_end, parts-some}
+use Rattle.rules.specs.Commands.{three_fields, is_address, fields_argument, eprt_argument}
+use Rattle.address.proofs.Parts.{parts-some}
 
 -- ---- the delimiters
 
-pub eprt-empty : (client s : List ℕ) → length s ≡ 0 → eprt_argument client s ≡ EprtArgument.Other
+pub eprt-empty : (client s : List ℕ) → length s ≡ 0 → None ≡ eprt_argument client s
 unfolding eprt_argument
 eprt-empty client [] h = refl
 eprt-empty client (x ∷ s) h = absurd (omega arith)
 
-pub eprt-not : (client s : List ℕ) → 0 < length s → within 33 126 (get_or s 0 0) ≡ false → eprt_argument client s ≡ EprtArgument.Other
-unfolding eprt_argument choose
-eprt-not client [] h e = absurd (omega arith)
-eprt-not client (x ∷ s) h e = rw e
+-- nothing, or something, after the fourth delimiter
+end-by : (x : ℕ) (b c d t : List ℕ) → length t ≡ 0 → three_fields ([] ∷ b ∷ c ∷ d ∷ parts x t) ≡ Some (b, c, d)
+unfolding three_fields parts choose
+end-by x b c d [] h = refl
+end-by x b c d (y ∷ t) h = absurd (omega arith)
 
-eprt-fields : (client s : List ℕ) → 0 < length s → within 33 126 (get_or s 0 0) ≡ true → eprt_argument client s ≡ fields_argument client (three_fields ([] ∷ parts (get_or s 0 0) (drop 1 s)))
-unfolding eprt_argument choose parts
-eprt-fields client [] h e = absurd (omega arith)
-eprt-fields client (x ∷ s) h e = rw (e, eq-eqb x x refl)
-
--- something after the fourth delimiter
-more_by : (b c d : List ℕ) (p : List (List ℕ)) → 0 < length p → three_fields ([] ∷ b ∷ c ∷ d ∷ [] ∷ p) ≡ none
+more_by : (b c d : List ℕ) (p : List (List ℕ)) → 0 < length p → three_fields ([] ∷ b ∷ c ∷ d ∷ [] ∷ p) ≡ None
 unfolding three_fields
 more_by b c d [] h = absurd (omega arith)
 more_by b c d (q ∷ p) h = refl
 
-onto-by : (b c d : List ℕ) (y : ℕ) (p : List (List ℕ)) → three_fields ([] ∷ b ∷ c ∷ d ∷ onto_first y p) ≡ none
+onto-by : (b c d : List ℕ) (y : ℕ) (p : List (List ℕ)) → three_fields ([] ∷ b ∷ c ∷ d ∷ onto_first y p) ≡ None
 unfolding three_fields onto_first choose
 onto-by b c d y [] = refl
 onto-by b c d y (q ∷ []) = refl
 onto-by b c d y (q ∷ r ∷ p) = refl
 
-rest-by : (b c d : List ℕ) (y : ℕ) (p : List (List ℕ)) (t : Bool) → 0 < length p → three_fields ([] ∷ b ∷ c ∷ d ∷ choose t ([] ∷ p) (onto_first y p)) ≡ none
+rest-by : (b c d : List ℕ) (y : ℕ) (p : List (List ℕ)) (t : Bool) → 0 < length p → three_fields ([] ∷ b ∷ c ∷ d ∷ choose t ([] ∷ p) (onto_first y p)) ≡ None
 unfolding choose
 rest-by b c d y p true h = more_by b c d p h
 rest-by b c d y p false h = onto-by b c d y p
 
-with_rest : (x : ℕ) (b c d t : List ℕ) → 0 < length t → three_fields ([] ∷ b ∷ c ∷ d ∷ parts x t) ≡ none
+with_rest : (x : ℕ) (b c d t : List ℕ) → 0 < length t → three_fields ([] ∷ b ∷ c ∷ d ∷ parts x t) ≡ None
 unfolding parts
 with_rest x b c d [] h = absurd (omega arith)
 with_rest x b c d (y ∷ t) h = rest-by b c d y (parts x t) (eqb y x) (parts-some x t)
 
-module _ (client s : List ℕ) (one : 0 < length s) (fit : within 33 126 (get_or s 0 0) ≡ true) (b : ℕ) (at_b : b ≡ 1 + run (is_not (get_or s 0 0)) (drop 1 s)) where
-  pub no_second : length s ≤ b → eprt_argument client s ≡ EprtArgument.Other
-  unfolding three_fields fields_argument
-  no_second h = eprt-fields client s one fit ∙ rw (part_end (get_or s 0 0) s 1 b at_b h)
+module _ (client s : List ℕ) (d : ℕ) (r : List ℕ) (whole : s ≡ d ∷ r) where
+  pub eprt-not : within 33 126 d ≡ false → None ≡ eprt_argument client s
+  unfolding eprt_argument choose
+  eprt-not e = rw (whole, e)
 
-  module _ (in_b : b < length s) (c : ℕ) (at_c : c ≡ (b + 1) + run (is_not (get_or s 0 0)) (drop (b + 1) s)) where
-    pub no_third : length s ≤ c → eprt_argument client s ≡ EprtArgument.Other
+  module _ (fit : within 33 126 d ≡ true) where
+    by-parts : eprt_argument client s ≡ fields_argument client (three_fields ([] ∷ parts d r))
+    unfolding eprt_argument choose parts
+    by-parts = rw (whole, fit, eq-eqb d d refl)
+
+    pub no_protocol : parts d r ≡ r ∷ [] → None ≡ eprt_argument client s
     unfolding three_fields fields_argument
-    no_third h = eprt-fields client s one fit ∙ rw (part_at (get_or s 0 0) s 1 b at_b in_b, part_end (get_or s 0 0) s (b + 1) c at_c h)
+    no_protocol e = sym (by-parts ∙ rw e)
 
-    module _ (in_c : c < length s) (e : ℕ) (at-e : e ≡ (c + 1) + run (is_not (get_or s 0 0)) (drop (c + 1) s)) where
-      three-parts : eprt_argument client s ≡ fields_argument client (three_fields ([] ∷ take (b - 1) (drop 1 s) ∷ take (c - (b + 1)) (drop (b + 1) s) ∷ parts (get_or s 0 0) (drop (c + 1) s)))
-      three-parts = eprt-fields client s one fit ∙ rw (part_at (get_or s 0 0) s 1 b at_b in_b, part_at (get_or s 0 0) s (b + 1) c at_c in_c)
-
-      no-end-by : (t : Bool) → ltb e (length s) ≡ t → (e + 1 ≡ length s → ⊥) → eprt_argument client s ≡ EprtArgument.Other
+    module _ (a t : List ℕ) (at_a : parts d r ≡ a ∷ parts d t) where
+      pub no_address : parts d t ≡ t ∷ [] → None ≡ eprt_argument client s
       unfolding three_fields fields_argument
-      no-end-by true p h =
-          let in_e : e < length s = ltb-true e (length s) p in
-          let more : 0 < length (drop (e + 1) s) = rw length-drop (omega arith) in
-          three-parts ∙ rw (part_at (get_or s 0 0) s (c + 1) e at-e in_e, with_rest (get_or s 0 0) (take (b - 1) (drop 1 s)) (take (c - (b + 1)) (drop (b + 1) s)) (take (e - (c + 1)) (drop (c + 1) s)) (drop (e + 1) s) more)
-      no-end-by false p h = three-parts ∙ rw (part_end (get_or s 0 0) s (c + 1) e at-e (ltb-false e (length s) p))
+      no_address e = sym (by-parts ∙ rw (at_a, e))
 
-      pub no_end : (e + 1 ≡ length s → ⊥) → eprt_argument client s ≡ EprtArgument.Other
-      no_end h = no-end-by (ltb e (length s)) refl h
+      module _ (b u : List ℕ) (at_b : parts d t ≡ b ∷ parts d u) where
+        pub no_port : parts d u ≡ u ∷ [] → None ≡ eprt_argument client s
+        unfolding three_fields fields_argument
+        no_port e = sym (by-parts ∙ rw (at_a, at_b, e))
 
-      pub at-end : e + 1 ≡ length s → eprt_argument client s ≡ fields_argument client (some (take (b - 1) (drop 1 s), take (c - (b + 1)) (drop (b + 1) s), take (e - (c + 1)) (drop (c + 1) s)))
-      unfolding three_fields choose parts
-      at-end h =
-          let end : drop (e + 1) s ≡ [] = drop_of_length-le s {i = e + 1} (omega arith) in
-          three-parts ∙ rw (part_at (get_or s 0 0) s (c + 1) e at-e (omega arith), end)
+        module _ (c v : List ℕ) (at_c : parts d u ≡ c ∷ parts d v) where
+          pub at-end : length v ≡ 0 → fields_argument client (Some (a, b, c)) ≡ eprt_argument client s
+          at-end h = sym (by-parts ∙ rw (at_a, at_b, at_c) (ap (fields_argument client) (end-by d a b c v h)))
+
+          pub goes-on : (length v ≡ 0 → ⊥) → None ≡ eprt_argument client s
+          unfolding fields_argument
+          goes-on h = sym (by-parts ∙ rw (at_a, at_b, at_c, with_rest d a b c v (omega arith)))
 
 -- ---- the fields
 
-pub not-two : (s : List ℕ) → (length s ≡ 1 → ⊥) → equal s (50 ∷ []) ≡ false
-not-two s h = equal-lengths s (50 ∷ []) h
-
-one-octet : (s : List ℕ) → length s ≡ 1 → equal s (50 ∷ []) ≡ eqb (get_or s 0 0) 50
-unfolding equal
-one-octet [] h = absurd (omega arith)
-one-octet (x ∷ []) h = and-true (eqb x 50)
-one-octet (x ∷ y ∷ s) h = absurd (omega arith)
-
-pub other-octet : (s : List ℕ) → length s ≡ 1 → (get_or s 0 0 ≡ 50 → ⊥) → equal s (50 ∷ []) ≡ false
-other-octet s h e = one-octet s h ∙ ne_eqb (get_or s 0 0) 50 e
-
-pub is-two : (s : List ℕ) → length s ≡ 1 → get_or s 0 0 ≡ 50 → equal s (50 ∷ []) ≡ true
-is-two s h e = one-octet s h ∙ eq-eqb (get_or s 0 0) 50 e
-
--- the address r was read
-pub no_address : (client : List ℕ) (o : Option (List ℕ)) (r : Ipv6Read) → r ≡ ipv6_read o → r.valid ≡ false → is_address client o ≡ false
-unfolding ipv6_read is_address
-no_address client none r e v = refl
-no_address client (some a) r e v = let q : true ≡ false = ap (λ (x : Ipv6Read). x.valid) (sym e) ∙ v in cc
-
-pub read-address : (client : List ℕ) (o : Option (List ℕ)) (r : Ipv6Read) → r ≡ ipv6_read o → r.valid ≡ true → is_address client o ≡ equal r.octets client
-unfolding ipv6_read is_address
-read-address client none r e v = let q : false ≡ true = ap (λ (x : Ipv6Read). x.valid) (sym e) ∙ v in cc
-read-address client (some a) r e v = ap (λ (x : Ipv6Read). equal x.octets client) (sym e)
-
 module _ (client p a q : List ℕ) where
-  pub other-protocol : equal p (50 ∷ []) ≡ false → fields_argument client (some (p, a, q)) ≡ EprtArgument.Other
+  pub other-protocol : equal p (50 ∷ []) ≡ false → None ≡ fields_argument client (Some (p, a, q))
   unfolding fields_argument choose
   other-protocol e = rw e
 
-  pub other-address : is_address client (ipv6 a) ≡ false → fields_argument client (some (p, a, q)) ≡ EprtArgument.Other
-  unfolding fields_argument choose
-  other-address e = rw (e, and-false (equal p (50 ∷ [])))
+  pub unread-address : None ≡ ipv6 a → None ≡ fields_argument client (Some (p, a, q))
+  unfolding fields_argument is_address choose
+  unread-address e = rw (← e, and-false (equal p (50 ∷ [])))
 
-  pub own-address : equal p (50 ∷ []) ≡ true → is_address client (ipv6 a) ≡ true → fields_argument client (some (p, a, q)) ≡ port_argument (number 5 1 65535 q)
-  unfolding fields_argument choose
-  own-address d e = rw (d, e)
+  pub other-address : (o : List ℕ) → Some o ≡ ipv6 a → equal o client ≡ false → None ≡ fields_argument client (Some (p, a, q))
+  unfolding fields_argument is_address choose
+  other-address o e h = rw (← e, h, and-false (equal p (50 ∷ [])))
+
+  pub own-address : (o : List ℕ) → equal p (50 ∷ []) ≡ true → Some o ≡ ipv6 a → equal o client ≡ true → number 5 1 65535 q ≡ fields_argument client (Some (p, a, q))
+  unfolding fields_argument is_address choose
+  own-address o d e h = rw (d, ← e, h)

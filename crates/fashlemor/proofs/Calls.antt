@@ -1,4 +1,5 @@
 -- The calls of a host in C, from what the session and the image promise.
+use Rattle.std.specs.Prelude.{Option, None}
 use mathlib.Core.Path.{◌≡◌, refl, ap, sym, ◌∙◌}
 use mathlib.Core.Bool.{Bool, true, false}
 use mathlib.Core.List.{List}
@@ -15,7 +16,6 @@ use Rattle.output.specs.Buffer.{put_at}
 use Rattle.session.specs.declared.Called.{Called}
 use Rattle.setups.specs.declared.Prepared.{Prepared}
 use Rattle.records.specs.declared.Session.{Session}
-use Rattle.counts.specs.declared.DirectionOffset.{DirectionOffset}
 use Rattle.records.specs.Sound.{refusal_of}
 use Rattle.counts.specs.Counts.{offset}
 use Rattle.session.specs.Calls.{Outcome, refused, unless_refused, arrived, end_called}
@@ -92,9 +92,9 @@ module _ (image : List ℕ) where
 
 narrow-offset : (s : Session) (d : ℕ) {n : ℕ} → n ≡ narrow d → offset s n ≡ offset s d
 unfolding offset
-narrow-offset s d e = narrow-same (offset s) DirectionOffset.UnknownDirection alike d e
+narrow-offset s d e = narrow-same (offset s) None alike d e
   where
-    alike : (n : ℕ) → 2 ≤ n → offset s n ≡ DirectionOffset.UnknownDirection
+    alike : (n : ℕ) → 2 ≤ n → offset s n ≡ None
     alike zero h = absurd (omega arith)
     alike (suc zero) h = absurd (omega arith)
     alike (suc (suc n)) h = refl
@@ -112,9 +112,9 @@ all_told image out back same r ((t, memory), buffers) number counted =
 
 -- ---- offset
 
-pub offset-told : (image : List ℕ) (direction old : ℕ) {s : Session} {narrowed : ℕ} {x y : DirectionOffset} {n out : ℕ} → s ≡ session_of image
+pub offset-told : (image : List ℕ) (direction old : ℕ) {s : Session} {narrowed : ℕ} {x y : Option ℕ} {n out : ℕ} → s ≡ session_of image
     → narrowed ≡ narrow direction → x ≡ offset s narrowed → x ≡ y → n ≡ offset_number y → out ≡ offset_after y old
     → (n ≡ offset_number (offset (session_of image) direction)) × (out ≡ offset_after (offset (session_of image) direction) old)
 offset-told image direction old {narrowed = narrowed} {y = y} e w p q number after =
     let same : y ≡ offset (session_of image) direction = sym q ∙ (p ∙ (ap (λ (r : Session). offset r narrowed) e ∙ narrow-offset (session_of image) direction w)) in
-    (number ∙ ap offset_number same, after ∙ ap (λ (z : DirectionOffset). offset_after z old) same)
+    (number ∙ ap offset_number same, after ∙ ap (λ (z : Option ℕ). offset_after z old) same)

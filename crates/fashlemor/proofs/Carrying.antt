@@ -2,7 +2,7 @@
 use mathlib.Core.Path.{◌≡◌, refl, ap, sym, ◌∙◌}
 use mathlib.Core.Bool.{Bool, true, false}
 use mathlib.Core.List.{List}
-use mathlib.Core.Option.{Option, none, some}
+use Rattle.std.specs.Prelude.{Option, None, Some}
 use Prim.Native.Nat.{ℕ, ◌+◌, ◌^◌, ◌≤◌, ◌<◌}
 use native.Mathlib.Omega.{arith}
 use lib.Dec.{leb, eqb}
@@ -88,8 +88,8 @@ module _ (s : Session) (up : Wrapped s.up) (down : Wrapped s.down) where
 
   unless-fixed : (r : Option Answer) (o : Outcome) → Untouched s o → Untouched s (unless_refused r s o)
   unfolding unless_refused
-  unless-fixed none o f = f
-  unless-fixed (some a) o f = same-fixed a
+  unless-fixed None o f = f
+  unless-fixed (Some a) o f = same-fixed a
 
   end-fixed : (d : Side) (t : Step) (b : Bool) → Untouched s (end_outcome s d t b)
   unfolding end_outcome

@@ -1,4 +1,5 @@
 -- The calls of a host in C: the number that it is told, the record's image, the buffers, the counts and the offset.
+use Rattle.std.specs.Prelude.{Option, None, Some}
 use Rattle.std.specs.Prelude.{List, [], ◌∷◌, ℕ, leb, length}
 use Rattle.rules.specs.Octets.{choose}
 use Rattle.rules.specs.Answers.{answer_number}
@@ -7,7 +8,6 @@ use Rattle.records.specs.Layout.{image_size}
 use Rattle.steps.specs.declared.Written.{Written}
 use Rattle.session.specs.declared.Called.{Called}
 use Rattle.setups.specs.declared.Prepared.{Prepared}
-use Rattle.counts.specs.declared.DirectionOffset.{DirectionOffset}
 
 -- ---- setup
 
@@ -32,11 +32,11 @@ narrow d = choose (leb 2 d) 2 d
 -- ---- offset
 
 -- the number that a host is told: number 3 where the direction has no offset
-unfoldable pub offset_number : DirectionOffset → ℕ
-offset_number (DirectionOffset.Is n) = answer_number Answer.Done
-offset_number DirectionOffset.UnknownDirection = answer_number Answer.UnknownDirection
+unfoldable pub offset_number : Option ℕ → ℕ
+offset_number (Some n) = answer_number Answer.Done
+offset_number None = answer_number Answer.UnknownDirection
 
 -- the number that the offset is set to; it stays as it was for a direction that there is not
-unfoldable pub offset_after : DirectionOffset → ℕ → ℕ
-offset_after (DirectionOffset.Is n) old = n
-offset_after DirectionOffset.UnknownDirection old = old
+unfoldable pub offset_after : Option ℕ → ℕ → ℕ
+offset_after (Some n) old = n
+offset_after None old = old

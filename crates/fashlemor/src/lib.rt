@@ -11,10 +11,10 @@ ghost use Rattle.image.specs.Image.{image_of, session_of};
 ghost use Rattle.image.specs.Lent.{arrived_on, ended_on, image_after, server_after, client_after};
 ghost use Rattle.fashlemor.specs.Host.{setup_number, counts_from, counts_of, narrow, offset_number, offset_after};
 
-use counts::{DirectionOffset, offset};
+use counts::offset;
 use image::{arrive_at, end_at, put_image, read_image};
 use records::layout;
-use rules::{Answer, number_of};
+use rules::Answer;
 use setups::setup_from;
 use steps::Written;
 
@@ -34,9 +34,9 @@ pub fn fashlemor_setup(image: &mut [u8], setup: &[u8]) -> u8
     let session = p.session;
     put_image(image, session);
     if room < layout::SIZE {
-        return number_of(Answer::BadSetup);
+        return u8::from(Answer::BadSetup);
     }
-    number_of(answer)
+    u8::from(answer)
 }
 
 // Octets of a direction arrive; what they give goes into the two buffers.
@@ -65,7 +65,7 @@ pub fn fashlemor_arrive(
     let answer = told.answer;
     let written = told.written;
     put_counts(counts, told.taken, written);
-    number_of(answer)
+    u8::from(answer)
 }
 
 // A direction ends: its held octets go into its buffer.
@@ -93,7 +93,7 @@ pub fn fashlemor_end(
     let answer = done.answer;
     let written = done.written;
     put_counts(counts, done.taken, written);
-    number_of(answer)
+    u8::from(answer)
 }
 
 // The offset of a direction; nothing is set for one that there is not.
@@ -102,11 +102,11 @@ pub fn fashlemor_offset(image: &[u8], direction: u64, out: &mut u32) -> u8
     ensures offset { out.new ≡ offset_after (offset_in (session_of image.now) direction) out.old }
 {
     let session = read_image(image);
-    let DirectionOffset::Is(n) = offset(session, narrowed(direction)) else {
-        return number_of(Answer::UnknownDirection);
+    let Some(n) = offset(session, narrowed(direction)) else {
+        return u8::from(Answer::UnknownDirection);
     };
     *out = n;
-    number_of(Answer::Done)
+    u8::from(Answer::Done)
 }
 
 // A direction's number in an octet: a wide one is none that there is, and stays so.

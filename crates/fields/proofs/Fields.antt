@@ -10,7 +10,7 @@ use lib.ListN.{length, get_or, drop, length-append, drop_of_length-le}
 use lib.Seq.{drop-cons}
 use borrow.Author.Tests.{le-leb, lt-leb, leb-true, leb-false}
 use Rattle.rules.specs.Octets.{oct, lf, choose, decimal}
-use Rattle.fields.specs.declared.Room.{Room}
+use Rattle.std.specs.Prelude.{Option, Some, None, SomeIff, is_some}
 use Rattle.fields.specs.Report.{Done, hex_glyph, stands_as_itself, shown, shown_all, field, entry_line, header_line, refused_line}
 use Rattle.fields.specs.Parts.{room_after, done_of}
 
@@ -48,32 +48,46 @@ shown-end s i h = rw (drop_of_length-le s h)
 -- ---- the room
 
 module _ (room n : ℕ) where
-  pub room-full : room < n → room_after room n ≡ Room.Full
+  pub room-full : room < n → room_after room n ≡ None
   unfolding room_after choose
   room-full h = rw (lt-leb n room h)
 
-  pub room-left : n ≤ room → room_after room n ≡ Room.Left (room - n)
+  pub room-left : n ≤ room → room_after room n ≡ Some (room - n)
   unfolding room_after choose
   room-left h = rw (le-leb n room h)
 
   -- what an answer says of the room
-  by-test : (b : Bool) → leb n room ≡ b → {left : ℕ} → choose b (Room.Left (room - n)) Room.Full ≡ Room.Left left → (n ≤ room) × (left ≡ room - n)
+  by-left : (b : Bool) → leb n room ≡ b → {left : ℕ} → choose b (Some (room - n)) None ≡ Some left → (n ≤ room) × (left ≡ room - n)
   unfolding choose
-  by-test true t e = (leb-true n room t, cc)
-  by-test false t e = let z : ◌≡◌ {A = ℕ} 0 1 = cc in absurd (omega arith)
+  by-left true t e = (leb-true n room t, cc)
+  by-left false t e = let z : ◌≡◌ {A = ℕ} 0 1 = cc in absurd (omega arith)
 
-  pub has_left : {left : ℕ} → room_after room n ≡ Room.Left left → (n ≤ room) × (left ≡ room - n)
+  pub has_left : {left : ℕ} → room_after room n ≡ Some left → (n ≤ room) × (left ≡ room - n)
   unfolding room_after
-  has_left e = by-test (leb n room) refl e
+  has_left e = by-left (leb n room) refl e
 
-  no-left : (b : Bool) → leb n room ≡ b → choose b (Room.Left (room - n)) Room.Full ≡ Room.Full → leb n room ≡ false
+  no-left : (b : Bool) → leb n room ≡ b → choose b (Some (room - n)) None ≡ None → leb n room ≡ false
   unfolding choose
   no-left true t e = let z : ◌≡◌ {A = ℕ} 0 1 = cc in absurd (omega arith)
   no-left false t e = t
 
-  pub has-none : room_after room n ≡ Room.Full → room < n
+  pub has-none : room_after room n ≡ None → room < n
   unfolding room_after
   has-none e = omega (arith, leb-false n room (no-left (leb n room) refl e))
+
+  chosen : (x : ℕ) (b : Bool) → is_some (choose b (Some x) None) ≡ b
+  unfolding choose
+  chosen x true = refl
+  chosen x false = refl
+
+  pub is_some-room : is_some (room_after room n) ≡ leb n room
+  unfolding room_after
+  is_some-room = chosen _ (leb n room)
+
+  -- what a subtraction that may fail gives
+  pub subtracted : (o : Option ℕ) → SomeIff o (n ≤ room) (room - n) → o ≡ room_after room n
+  subtracted None h = sym (room-full (omega (arith, h)))
+  subtracted (Some x) h = rw h.1 (sym (room-left h.0))
 
 -- a text of n octets and one of m after it
 pub room-step : (room n m : ℕ) → n ≤ room → room_after room (n + m) ≡ room_after (room - n) m
@@ -93,13 +107,13 @@ module _ (s : List ℕ) (left i : ℕ) where
     split : length (shown_all (drop i s)) ≡ n + length (shown_all (drop (i + 1) s))
     split = rw (shown-next s i h, length-append, size)
 
-    pub shown-full : left < n → room_after left (length (shown_all (drop i s))) ≡ Room.Full
+    pub shown-full : left < n → room_after left (length (shown_all (drop i s))) ≡ None
     shown-full k = rw split (room-full left _ (omega arith))
 
     pub shown-taken : n ≤ left → room_after left (length (shown_all (drop i s))) ≡ room_after (left - n) (length (shown_all (drop (i + 1) s)))
     shown-taken k = rw split (room-step left n _ k)
 
-  pub shown-done : length s ≤ i → room_after left (length (shown_all (drop i s))) ≡ Room.Left left
+  pub shown-done : length s ≤ i → room_after left (length (shown_all (drop i s))) ≡ Some left
   shown-done h = let all : left - 0 ≡ left = omega arith in rw (shown-end s i h, room-left left 0 (omega arith), all)
 
 -- ---- lines of a text and a number
@@ -142,3 +156,11 @@ module _ (size at n taken number : ℕ) (to_server to_client : List ℕ) where
   pub line-has-room : at + (length (decimal n) + length (decimal taken) + length (decimal number) + 5 + length (field to_server) + length (field to_client)) ≤ size
       → true ≡ leb (at + length (entry_line n (done_of taken number to_server to_client))) size
   line-has-room h = rw (line-length n taken number to_server to_client) (sym (le-leb _ size h))
+
+  pub line-by-rest : (left : ℕ) → at + (length (decimal n) + length (decimal taken) + length (decimal number) + 5 + length (field to_server)) + left ≡ size
+      → leb (length (field to_client)) left ≡ leb (at + length (entry_line n (done_of taken number to_server to_client))) size
+  line-by-rest left whole = by-test (leb (length (field to_client)) left) refl
+    where
+      by-test : (b : Bool) → leb (length (field to_client)) left ≡ b → b ≡ leb (at + length (entry_line n (done_of taken number to_server to_client))) size
+      by-test true t = line-has-room (omega (arith, leb-true (length (field to_client)) left t))
+      by-test false t = line_refused (omega (arith, leb-false (length (field to_client)) left t))

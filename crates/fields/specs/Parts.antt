@@ -1,13 +1,12 @@
 -- The parts that the report is written by.
-use Rattle.std.specs.Prelude.{List, ℕ, ◌-◌, leb}
+use Rattle.std.specs.Prelude.{Option, Some, None, List, ℕ, ◌-◌, leb}
 use Rattle.rules.specs.Octets.{choose}
 use Rattle.setups.specs.Setups.{dead_session}
-use Rattle.fields.specs.declared.Room.{Room}
 use Rattle.fields.specs.Report.{Done}
 
--- the room that is left after n octets
-unfoldable pub room_after : ℕ → ℕ → Room
-room_after room n = choose (leb n room) (Room.Left (room - n)) Room.Full
+-- the room that is left after n octets, where they fit
+unfoldable pub room_after : ℕ → ℕ → Option ℕ
+room_after room n = choose (leb n room) (Some (room - n)) None
 
 -- what an entry did, by the parts that its line shows; its line does not show the record
 unfoldable pub done_of : ℕ → ℕ → List ℕ → List ℕ → Done

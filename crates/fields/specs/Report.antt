@@ -1,11 +1,11 @@
 -- "It writes a header with the entry count, then per entry .."
-use Rattle.std.specs.Prelude.{Bool, ◌&&◌, not, List, [], ◌∷◌, ◌++◌, ℕ, zero, suc, ◌+◌, ◌/◌, ◌%◌, eqb, ltb, take, drop}
+use Rattle.std.specs.Prelude.{Result, Ok, Err, Bool, ◌&&◌, not, List, [], ◌∷◌, ◌++◌, ℕ, zero, suc, ◌+◌, ◌/◌, ◌%◌, eqb, ltb, take, drop}
 use Rattle.rules.specs.Octets.{oct, lf, space, choose, is_empty, within, decimal}
 use Rattle.rules.specs.Answers.{answer_number}
 use Rattle.records.specs.declared.Session.{Session}
 use Rattle.setups.specs.Setups.{prepared_from, dead_session}
 use Rattle.session.specs.Calls.{Outcome, arrived, end_called}
-use Rattle.files.specs.declared.Verdict.{Verdict}
+use Rattle.files.specs.declared.FileFault.{FileFault}
 use Rattle.files.specs.Contents.{Entry, count, table_end, table_of, verdict, verdict_number}
 
 -- "The replay uses 16,384 octets for each out buffer, emptied per entry"
@@ -98,10 +98,9 @@ unfoldable pub refused_line : ℕ → List ℕ
 refused_line number = oct "REFUSED " ++ (decimal number ++ (lf ∷ []))
 
 -- the single line of a refusal, or the report of a file that is not refused
-unfoldable pub report_by : Verdict → List ℕ → List ℕ
-report_by Verdict.WrongLength file = refused_line (verdict_number Verdict.WrongLength)
-report_by Verdict.WrongTable file = refused_line (verdict_number Verdict.WrongTable)
-report_by Verdict.Accepted file = accepted_report file
+unfoldable pub report_by : Result Unit FileFault → List ℕ → List ℕ
+report_by (Err fault) file = refused_line (verdict_number (Err fault))
+report_by (Ok done) file = accepted_report file
 
 -- what the replay writes for a file
 unfoldable pub report : List ℕ → List ℕ

@@ -9,26 +9,14 @@ ghost use Rattle.fields.specs.Parts.{room_after, done_of};
 
 use output::{decimal_length, put, put_decimal};
 
-// The room that is left after a text, or none where the text does not fit.
-#[derive(Clone, Copy)]
-enum Room {
-    Left(usize),
-    Full,
-}
-
+#[tactic(auto, unfolding(crate::specs::Report::stands_as_itself))]
 fn stands_as_itself(x: u8) -> bool
     ensures { result ≡ stands_as_itself x }
 {
-    if x < 33 {
-        return false;
+    match x {
+        b'-' | b'\\' => false,
+        _ => x.is_ascii_graphic(),
     }
-    if x > 126 {
-        return false;
-    }
-    if x == 45 {
-        return false;
-    }
-    x != 92
 }
 
 // A lower-case hex digit.
@@ -36,19 +24,13 @@ fn hex_digit(n: u8) -> u8
     requires { n < 16 }
     ensures { result ≡ hex_glyph n }
 {
-    if n < 10 {
-        return 48 + n;
-    }
-    87 + n
+    if n < 10 { b'0' + n } else { b'a' + n - 10 }
 }
 
 fn shown_length(x: u8) -> usize
     ensures { result ≡ length (shown x) }
 {
-    if stands_as_itself(x) {
-        return 1;
-    }
-    3
+    if stands_as_itself(x) { 1 } else { 3 }
 }
 
 // An octet as itself, or as a backslash and two hex digits.
@@ -58,51 +40,39 @@ fn put_shown(out: &mut [u8], at: usize, x: u8) -> usize
     if stands_as_itself(x) {
         return put(out, at, &[x]);
     }
-    put(out, at, &[92, hex_digit(x / 16), hex_digit(x % 16)])
+    put(out, at, &[b'\\', hex_digit(x / 16), hex_digit(x % 16)])
 }
 
-// The room that is left after a field. Counting down, it can not run over however long the octets are.
-fn room_after(room: usize, octets: &[u8]) -> Room
+// The room that is left after a field, where it fits. Counting down, it can not run over however long the octets are.
+fn room_after(room: usize, octets: &[u8]) -> Option<usize>
     ensures { result ≡ room_after room (length (field octets.now)) }
 {
-    if octets.len() == 0 {
-        if room < 1 {
-            return Room::Full;
-        }
-        return Room::Left(room - 1);
+    if octets.is_empty() {
+        return room.checked_sub(1);
     }
     let mut left = room;
-    let mut i = 0;
-    while i < octets.len() {
-        let n = shown_length(octets[i]);
-        if left < n {
-            return Room::Full;
-        }
-        left -= n;
-        i += 1;
+    for x in octets {
+        left = left.checked_sub(shown_length(*x))?;
     }
-    Room::Left(left)
+    Some(left)
 }
 
 // All of a field from `at` on, or nothing; the next position.
 pub fn put_field(out: &mut [u8], at: usize, octets: &[u8]) -> usize
     ensures { Put out.old at (field octets.now) result out.new }
 {
-    if octets.len() == 0 {
+    if octets.is_empty() {
         return put(out, at, b"-");
     }
-    if out.len() < at {
-        return at;
-    }
-    let room = room_after(out.len() - at, octets);
-    let Room::Left(_) = room else {
+    let Some(room) = out.len().checked_sub(at) else {
         return at;
     };
+    if room_after(room, octets).is_none() {
+        return at;
+    }
     let mut next = at;
-    let mut i = 0;
-    while i < octets.len() {
-        next = put_shown(out, next, octets[i]);
-        i += 1;
+    for x in octets {
+        next = put_shown(out, next, *x);
     }
     next
 }
@@ -138,7 +108,8 @@ pub fn put_header(out: &mut [u8], at: usize, count: u16) -> usize
     put_number(out, next, count, b"\n")
 }
 
-// Whether the line of an entry has room from `at` on in a buffer of this size.
+// Whether the line of an entry has room from `at` on in a buffer of this size. A line tells the number of an answer, so
+// it is a number here.
 pub fn line_fits(
     size: usize,
     at: usize,
@@ -151,23 +122,16 @@ pub fn line_fits(
     ensures { let line = entry_line n (done_of taken number to_server.now to_client.now) in
         result ≡ leb (at + length line) size }
 {
-    if size < at {
-        return false;
-    }
     // three numbers, four spaces, LF
-    let numbers = decimal_length(n) + decimal_length(taken) + decimal_length(number as u16) + 5;
-    if size - at < numbers {
+    let numbers = decimal_length(n) + decimal_length(taken) + decimal_length(u16::from(number)) + 5;
+    if size < at || size - at < numbers {
         return false;
     }
     let first = room_after(size - at - numbers, to_server);
-    let Room::Left(left) = first else {
+    let Some(left) = first else {
         return false;
     };
-    let second = room_after(left, to_client);
-    let Room::Left(_) = second else {
-        return false;
-    };
-    true
+    room_after(left, to_client).is_some()
 }
 
 // The line of an entry, or nothing where it does not fit; the next position.
@@ -188,7 +152,7 @@ pub fn put_entry_line(
     }
     let mut next = put_number(out, at, n, b" ");
     next = put_number(out, next, taken, b" ");
-    next = put_number(out, next, number as u16, b" ");
+    next = put_number(out, next, u16::from(number), b" ");
     next = put_part(out, next, to_server, b" ");
     put_part(out, next, to_client, b"\n")
 }

@@ -8,10 +8,12 @@ use lib.Dec.{eqb, leb, ltb}
 use lib.ListN.{length, drop}
 use lib.Seq.{drop-drop}
 use borrow.Author.Tests.{leb-true, eqb-true, not-false}
+use Rattle.std.specs.Prelude.{Result, Ok, Err}
 use Rattle.rules.specs.Octets.{choose, within}
 use Rattle.rules.specs.Setup.{setup_size}
 use Rattle.octets.proofs.Ranges.{and_both}
-use Rattle.files.specs.declared.Verdict.{Verdict}
+use Rattle.files.specs.declared.FileFault.{FileFault}
+use Rattle.files.specs.declared.FileFault.TheVariants.{WrongLength}
 use Rattle.files.specs.Contents.{Entry, entry_of, entries, count, table_end, table_of, is_setup, good_length, good_entry, no_setups, good_table, bodies_length, verdict}
 
 -- ---- an entry that is right by itself
@@ -66,29 +68,26 @@ pub record Accepted (file : List ℕ) : Type 0 where
   pub total : length file ≡ table_end file + bodies_length (table_of file)
 
 -- a test that would have led elsewhere is false
-past : (b : Bool) {x y : Verdict} → (x ≡ Verdict.Accepted → ⊥) → choose b x y ≡ Verdict.Accepted → (b ≡ false) × (y ≡ Verdict.Accepted)
+past : (b : Bool) {x y : Result Unit FileFault} → (x ≡ Ok tt → ⊥) → choose b x y ≡ Ok tt → (b ≡ false) × (y ≡ Ok tt)
 unfolding choose
 past true h e = absurd (h e)
 past false h e = (refl, e)
 
-whole : (b : Bool) → choose b Verdict.Accepted Verdict.WrongLength ≡ Verdict.Accepted → b ≡ true
+whole : (b : Bool) → choose {A = Result Unit FileFault} b (Ok tt) (Err WrongLength) ≡ Ok tt → b ≡ true
 unfolding choose
 whole true e = refl
 whole false e = cc
 
-wrong-length : Verdict.WrongLength ≡ Verdict.Accepted → ⊥
-wrong-length e = let z : ◌≡◌ {A = ℕ} 0 1 = cc in omega arith
+no-fault : {fault : FileFault} → ◌≡◌ {A = Result Unit FileFault} (Err fault) (Ok tt) → ⊥
+no-fault e = let z : ◌≡◌ {A = ℕ} 0 1 = cc in omega arith
 
-wrong-table : Verdict.WrongTable ≡ Verdict.Accepted → ⊥
-wrong-table e = let z : ◌≡◌ {A = ℕ} 0 1 = cc in omega arith
-
-pub accepted : (file : List ℕ) → verdict file ≡ Verdict.Accepted → Accepted file
+pub accepted : (file : List ℕ) → verdict file ≡ Ok tt → Accepted file
 unfolding verdict
 accepted file e =
-    let a = past (ltb (length file) 2) wrong-length e in
-    let b = past (not (within 1 48 (count file))) wrong-table a.1 in
-    let c = past (ltb (length file) (table_end file)) wrong-length b.1 in
-    let d = past (not (good_table (table_of file))) wrong-table c.1 in
+    let a = past (ltb (length file) 2) no-fault e in
+    let b = past (not (within 1 48 (count file))) no-fault a.1 in
+    let c = past (ltb (length file) (table_end file)) no-fault b.1 in
+    let d = past (not (good_table (table_of file))) no-fault c.1 in
     let n = and_both (leb 1 (count file)) (leb (count file) 48) (not-false _ b.0) in
     record {
       some = leb-true 1 (count file) n.0;

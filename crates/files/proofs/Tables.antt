@@ -9,10 +9,12 @@ use lib.Dec.{eqb, leb}
 use lib.ListN.{length, get_or, drop, get_or-eq_default}
 use lib.Seq.{get_or-drop, drop-drop}
 use borrow.Author.Tests.{le-leb, lt-leb, lt-ltb, le-ltb, eq-eqb, ne_eqb}
+use Rattle.std.specs.Prelude.{Result, Ok, Err}
 use Rattle.rules.specs.Octets.{choose, within}
 use Rattle.rules.specs.Setup.{setup_size}
 use Rattle.octets.proofs.Ranges.{is_within}
-use Rattle.files.specs.declared.Verdict.{Verdict}
+use Rattle.files.specs.declared.FileFault.{FileFault}
+use Rattle.files.specs.declared.FileFault.TheVariants.{WrongLength, WrongTable}
 use Rattle.files.specs.Contents.{Entry, pair_at, entry_of, entries, count, table_end, table_of, good_length, good_entry, no_setups, good_table, bodies_length, verdict}
 
 -- ---- a pair of octets
@@ -76,26 +78,26 @@ module _ (file : List ℕ) (at : ℕ) where
 -- ---- the entries after the first
 
 -- what decides of a file of so many octets, the entries being left that make no part of the total yet
-unfoldable pub judged : ℕ → ℕ → List Entry → Verdict
+unfoldable pub judged : ℕ → ℕ → List Entry → Result Unit FileFault
 judged size total es =
-    choose (not (no_setups es)) Verdict.WrongTable
-    (choose (eqb size (total + bodies_length es)) Verdict.Accepted Verdict.WrongLength)
+    choose (not (no_setups es)) (Err WrongTable)
+    (choose (eqb size (total + bodies_length es)) (Ok tt) (Err WrongLength))
 
 module _ (size total : ℕ) where
-  pub judged-whole : size ≡ total → judged size total [] ≡ Verdict.Accepted
+  pub judged-whole : size ≡ total → judged size total [] ≡ Ok tt
   unfolding judged no_setups bodies_length choose
   judged-whole h = rw (eq-eqb size (total + 0) (omega arith))
 
-  pub judged-other : (size ≡ total → ⊥) → judged size total [] ≡ Verdict.WrongLength
+  pub judged-other : (size ≡ total → ⊥) → judged size total [] ≡ Err WrongLength
   unfolding judged no_setups bodies_length choose
   judged-other h = rw (ne_eqb size (total + 0) (λ (t : size ≡ total + 0). h (omega arith)))
 
   module _ (e : Entry) (es : List Entry) where
-    pub second-setup : e.kind ≡ 4 → judged size total (e ∷ es) ≡ Verdict.WrongTable
+    pub second-setup : e.kind ≡ 4 → judged size total (e ∷ es) ≡ Err WrongTable
     unfolding judged no_setups choose
     second-setup h = rw h
 
-    pub wrong-entry : good_entry e ≡ false → judged size total (e ∷ es) ≡ Verdict.WrongTable
+    pub wrong-entry : good_entry e ≡ false → judged size total (e ∷ es) ≡ Err WrongTable
     unfolding judged no_setups choose
     wrong-entry h = rw (h, and-false)
 
@@ -106,10 +108,10 @@ module _ (size total : ℕ) where
 -- the entries being those that are left of the table, from a position of the file on
 module _ (file : List ℕ) (size total at left : ℕ) where
   module _ (more : 0 < left) where
-    pub setup-again : get_or file at 0 ≡ 4 → judged size total (entries left (drop at file)) ≡ Verdict.WrongTable
+    pub setup-again : get_or file at 0 ≡ 4 → judged size total (entries left (drop at file)) ≡ Err WrongTable
     setup-again h = rw (entries_next file at left more) (second-setup size total _ _ (kind_at file at ∙ h))
 
-    pub entry-wrong : good_entry (entry_of (drop at file)) ≡ false → judged size total (entries left (drop at file)) ≡ Verdict.WrongTable
+    pub entry-wrong : good_entry (entry_of (drop at file)) ≡ false → judged size total (entries left (drop at file)) ≡ Err WrongTable
     entry-wrong h = rw (entries_next file at left more) (wrong-entry size total _ _ h)
 
     pub entry-right : (m : ℕ) → m ≡ pair_at file (at + 2) → (get_or file at 0 ≡ 4 → ⊥) → good_entry (entry_of (drop at file)) ≡ true
@@ -121,15 +123,15 @@ module _ (file : List ℕ) (size total at left : ℕ) where
   unfolding entries
   none_left h = let z : left ≡ 0 = omega arith in rw z
 
-  pub total_right : left ≤ 0 → size ≡ total → judged size total (entries left (drop at file)) ≡ Verdict.Accepted
+  pub total_right : left ≤ 0 → size ≡ total → judged size total (entries left (drop at file)) ≡ Ok tt
   total_right h k = rw (none_left h) (judged-whole size total k)
 
-  pub total-wrong : left ≤ 0 → (size ≡ total → ⊥) → judged size total (entries left (drop at file)) ≡ Verdict.WrongLength
+  pub total-wrong : left ≤ 0 → (size ≡ total → ⊥) → judged size total (entries left (drop at file)) ≡ Err WrongLength
   total-wrong h k = rw (none_left h) (judged-other size total k)
 
 -- ---- the file
 
-pub no-count : (file : List ℕ) → length file < 2 → verdict file ≡ Verdict.WrongLength
+pub no-count : (file : List ℕ) → length file < 2 → verdict file ≡ Err WrongLength
 unfolding verdict choose
 no-count file h = rw (lt-ltb (length file) 2 h)
 
@@ -142,12 +144,12 @@ module _ (file : List ℕ) (n : ℕ) (two : 2 ≤ length file) (pair : n ≡ pai
   unfolding table_end
   ends = rw counts
 
-  pub wrong-count : within 1 48 n ≡ false → verdict file ≡ Verdict.WrongTable
+  pub wrong-count : within 1 48 n ≡ false → verdict file ≡ Err WrongTable
   unfolding verdict choose
   wrong-count h = rw (le-ltb (length file) 2 two, counts, h)
 
   module _ (low : 1 ≤ n) (high : n ≤ 48) where
-    pub table-cut : length file < 2 + 4 * n → verdict file ≡ Verdict.WrongLength
+    pub table-cut : length file < 2 + 4 * n → verdict file ≡ Err WrongLength
     unfolding verdict choose
     table-cut h = rw (le-ltb (length file) 2 two, counts, is_within 1 48 n low high, ends, lt-ltb (length file) (2 + 4 * n) h)
 
@@ -157,16 +159,16 @@ module _ (file : List ℕ) (n : ℕ) (two : 2 ≤ length file) (pair : n ≡ pai
       listed = rw counts (entries_next file 2 n (omega arith))
 
       -- then the entries and the total decide
-      table-present : verdict file ≡ choose (not (good_table (entry_of (drop 2 file) ∷ entries (n - 1) (drop 6 file)))) Verdict.WrongTable
-          (choose (eqb (length file) (2 + 4 * n + bodies_length (entry_of (drop 2 file) ∷ entries (n - 1) (drop 6 file)))) Verdict.Accepted Verdict.WrongLength)
+      table-present : verdict file ≡ choose (not (good_table (entry_of (drop 2 file) ∷ entries (n - 1) (drop 6 file)))) (Err WrongTable)
+          (choose (eqb (length file) (2 + 4 * n + bodies_length (entry_of (drop 2 file) ∷ entries (n - 1) (drop 6 file)))) (Ok tt) (Err WrongLength))
       unfolding verdict choose
       table-present = rw (le-ltb (length file) 2 two, counts, is_within 1 48 n low high, ends, le-ltb (length file) (2 + 4 * n) present, listed)
 
-      pub no-setup : (get_or file 2 0 ≡ 4 → ⊥) → verdict file ≡ Verdict.WrongTable
+      pub no-setup : (get_or file 2 0 ≡ 4 → ⊥) → verdict file ≡ Err WrongTable
       unfolding good_table choose
       no-setup h = table-present ∙ rw (kind_at file 2, ne_eqb (get_or file 2 0) 4 h)
 
-      pub wrong-setup : good_entry (entry_of (drop 2 file)) ≡ false → verdict file ≡ Verdict.WrongTable
+      pub wrong-setup : good_entry (entry_of (drop 2 file)) ≡ false → verdict file ≡ Err WrongTable
       unfolding good_table choose
       wrong-setup h = table-present ∙ rw (h, and-false)
 

@@ -1,8 +1,9 @@
 -- "A table of contents first, then the bodies."
-use Rattle.std.specs.Prelude.{◌≡◌, Bool, true, false, ◌&&◌, not, List, [], ◌∷◌, ℕ, zero, suc, ◌+◌, ◌*◌, ◌<◌, eqb, leb, ltb, length, get_or, take, drop}
+use Rattle.std.specs.Prelude.{◌≡◌, Result, Ok, Err, Bool, true, false, ◌&&◌, not, List, [], ◌∷◌, ℕ, zero, suc, ◌+◌, ◌*◌, ◌<◌, eqb, leb, ltb, length, get_or, take, drop}
 use Rattle.rules.specs.Octets.{choose, within}
 use Rattle.rules.specs.Setup.{setup_size}
-use Rattle.files.specs.declared.Verdict.{Verdict}
+use Rattle.files.specs.declared.FileFault.{FileFault}
+use Rattle.files.specs.declared.FileFault.TheVariants.{WrongLength, WrongTable}
 
 -- "high octet first": the number of the two octets at a position
 unfoldable pub pair_at : List ℕ → ℕ → ℕ
@@ -70,23 +71,23 @@ unfoldable pub longest_file : ℕ
 longest_file = 2 + 4 * 48 + setup_size + 47 * 1024
 
 -- "Order: two octets present, count, table present, entries, total"
-unfoldable pub verdict : List ℕ → Verdict
+unfoldable pub verdict : List ℕ → Result Unit FileFault
 verdict file =
-    choose (ltb (length file) 2) Verdict.WrongLength
-    (choose (not (within 1 48 (count file))) Verdict.WrongTable
-    (choose (ltb (length file) (table_end file)) Verdict.WrongLength
-    (choose (not (good_table (table_of file))) Verdict.WrongTable
-    (choose (eqb (length file) (table_end file + bodies_length (table_of file))) Verdict.Accepted Verdict.WrongLength))))
+    choose (ltb (length file) 2) (Err WrongLength)
+    (choose (not (within 1 48 (count file))) (Err WrongTable)
+    (choose (ltb (length file) (table_end file)) (Err WrongLength)
+    (choose (not (good_table (table_of file))) (Err WrongTable)
+    (choose (eqb (length file) (table_end file + bodies_length (table_of file))) (Ok tt) (Err WrongLength)))))
 
 -- a file longer than any session file is refused as its first octets are, one more than the largest has
 abbrev pub LongerSame : Type 0
 LongerSame = (file : List ℕ) → longest_file < length file → verdict (take (longest_file + 1) file) ≡ verdict file
 
 -- "`REFUSED 7` (file length not what the table says, table cut) or `REFUSED 8` (count, kind, order, zero octet or length wrong)"
-unfoldable pub verdict_number : Verdict → ℕ
-verdict_number Verdict.Accepted = 0
-verdict_number Verdict.WrongLength = 7
-verdict_number Verdict.WrongTable = 8
+unfoldable pub verdict_number : Result Unit FileFault → ℕ
+verdict_number (Ok done) = 0
+verdict_number (Err WrongLength) = 7
+verdict_number (Err WrongTable) = 8
 
 -- this page's definitions, for a proof that computes with them
 unfoldable pub contents-opened : Unit {0}

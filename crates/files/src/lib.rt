@@ -6,22 +6,18 @@ ghost use Rattle.files.specs.Contents.{pair_at, entry_of, good_entry, verdict};
 
 use rules::SETUP;
 
-// A session file is refused with number 7 or 8, or it is one.
+// Why a session file is refused: the report of the first gives number 7, of the second number 8.
 #[derive(Clone, Copy)]
-pub enum Verdict {
+pub enum FileFault {
     WrongLength,
     WrongTable,
-    Accepted,
 }
 
 // An octet of the file; past its end they count as 0.
 fn octet_at(file: &[u8], at: usize) -> u8
     ensures { result ≡ get_or file.now at 0 }
 {
-    if file.len() <= at {
-        return 0;
-    }
-    file[at]
+    file.get(at).copied().unwrap_or(0)
 }
 
 // The number of the two octets at a position, high octet first.
@@ -29,10 +25,10 @@ pub fn pair_at(file: &[u8], at: usize) -> usize
     ensures result { result ≡ pair_at file.now at }
     ensures most { result < 65536 }
 {
-    if file.len() <= at {
+    let Some((_, rest)) = file.split_at_checked(at) else {
         return 0;
-    }
-    octet_at(file, at) as usize * 256 + octet_at(file, at + 1) as usize
+    };
+    u16::from_be_bytes([octet_at(rest, 0), octet_at(rest, 1)]) as usize
 }
 
 // Whether the entry whose four octets stand at a position is right by itself.
@@ -43,60 +39,43 @@ fn good_entry(file: &[u8], at: usize) -> bool
     if file[at + 1] != 0 {
         return false;
     }
-    let kind = file[at];
     let octets = pair_at(file, at + 2);
-    if kind <= 1 {
-        return octets <= 1024;
+    match file[at] {
+        0 | 1 => octets <= 1024,
+        2 | 3 => octets == 0,
+        4 => octets == SETUP,
+        _ => false,
     }
-    if kind <= 3 {
-        return octets == 0;
-    }
-    if kind == 4 {
-        return octets == SETUP;
-    }
-    false
 }
 
 // Whether a file is a session file: two octets present, count, table present, entries, total.
-pub fn judge(file: &[u8]) -> Verdict
+pub fn judge(file: &[u8]) -> Result<(), FileFault>
     ensures { result ≡ verdict file.now }
 {
     if file.len() < 2 {
-        return Verdict::WrongLength;
+        return Err(FileFault::WrongLength);
     }
     let entries = pair_at(file, 0);
-    if entries < 1 {
-        return Verdict::WrongTable;
-    }
-    if entries > 48 {
-        return Verdict::WrongTable;
+    if entries < 1 || entries > 48 {
+        return Err(FileFault::WrongTable);
     }
     let table_end = 2 + 4 * entries;
     if file.len() < table_end {
-        return Verdict::WrongLength;
+        return Err(FileFault::WrongLength);
     }
-    if file[2] != 4 {
-        return Verdict::WrongTable;
-    }
-    if !good_entry(file, 2) {
-        return Verdict::WrongTable;
+    if file[2] != 4 || !good_entry(file, 2) {
+        return Err(FileFault::WrongTable);
     }
     let mut total = table_end + pair_at(file, 4);
-    let mut at = 6;
-    let mut left = entries - 1;
-    while left > 0 {
-        if file[at] == 4 {
-            return Verdict::WrongTable;
-        }
-        if !good_entry(file, at) {
-            return Verdict::WrongTable;
+    for i in 1..entries {
+        let at = 2 + 4 * i;
+        if file[at] == 4 || !good_entry(file, at) {
+            return Err(FileFault::WrongTable);
         }
         total += pair_at(file, at + 2);
-        at += 4;
-        left -= 1;
     }
-    if file.len() == total {
-        return Verdict::Accepted;
+    if file.len() != total {
+        return Err(FileFault::WrongLength);
     }
-    Verdict::WrongLength
+    Ok(())
 }

@@ -9,7 +9,7 @@
 
 use places::{Direction, Place};
 use records::{Control, Session};
-use rules::{HELD, IPV4, IPV6, Layer, Setup, Telnet, number_of};
+use rules::{HELD, IPV4, IPV6, Layer, Setup, Telnet};
 use session::Called;
 use std::io;
 use std::io::{BufWriter, Write};
@@ -50,9 +50,10 @@ fn try_forged(out: &mut impl Write) -> io::Result<()> {
 }
 
 fn dead(session: Session) -> Session {
-    let mut s = session;
-    s.live = false;
-    s
+    Session {
+        live: false,
+        ..session
+    }
 }
 
 fn with_kind(session: Session, place: u8, kind: u8) -> Session {
@@ -62,15 +63,14 @@ fn with_kind(session: Session, place: u8, kind: u8) -> Session {
 }
 
 fn with_control(session: Session, control: Control) -> Session {
-    let mut s = session;
-    s.control = control;
-    s
+    Session { control, ..session }
 }
 
 fn owing(session: Session, owed: usize) -> Control {
-    let mut c = session.control;
-    c.owed = owed;
-    c
+    Control {
+        owed,
+        ..session.control
+    }
 }
 
 // The client's octets pass at once, though a Telnet command of the client is unfinished: nothing written depends on
@@ -84,20 +84,25 @@ fn unfinished_and_passing(session: Session) -> Control {
         telnet: Telnet::Iac,
         removed: 0,
     };
-    let mut c = session.control;
-    c.client = passing;
-    c.up = begun;
-    c
+    Control {
+        client: passing,
+        up: begun,
+        ..session.control
+    }
 }
 
 // Both directions forged, each by itself.
 fn try_places(out: &mut impl Write, session: Session, place: Place, held: usize) -> io::Result<()> {
     let forged = Direction { place, held };
-    let mut said = session.control;
-    said.client = forged;
+    let said = Control {
+        client: forged,
+        ..session.control
+    };
     try_all(out, with_control(session, said))?;
-    let mut answered = session.control;
-    answered.server = forged;
+    let answered = Control {
+        server: forged,
+        ..session.control
+    };
     try_all(out, with_control(session, answered))
 }
 
@@ -124,12 +129,10 @@ fn print(
     to_server: &[u8],
     to_client: &[u8],
 ) -> io::Result<()> {
-    let answer = called.answer;
-    let written = called.written;
-    print_number(out, number_of(answer) as usize)?;
+    print_number(out, usize::from(u8::from(called.answer)))?;
     print_number(out, called.taken)?;
-    print_number(out, written.server)?;
-    print_number(out, written.client)?;
+    print_number(out, called.written.server)?;
+    print_number(out, called.written.client)?;
     print_edges(out, to_server)?;
     print_edges(out, to_client)?;
     print_record(out, called.session)?;
@@ -137,28 +140,19 @@ fn print(
 }
 
 fn print_edges(out: &mut impl Write, buffer: &[u8]) -> io::Result<()> {
-    print_number(out, octet(buffer, 0) as usize)?;
-    print_number(out, octet(buffer, SIZE - 1) as usize)
-}
-
-fn octet(buffer: &[u8], i: usize) -> u8 {
-    if i < buffer.len() {
-        return buffer[i];
+    for edge in [buffer.first(), buffer.last()] {
+        print_number(out, edge.copied().unwrap_or(0) as usize)?;
     }
-    0
+    Ok(())
 }
 
 fn print_record(out: &mut impl Write, session: Session) -> io::Result<()> {
     let control = session.control;
-    let client = control.client;
-    let server = control.server;
-    let up = session.up;
-    let down = session.down;
     print_number(out, control.owed)?;
-    print_number(out, client.held)?;
-    print_number(out, server.held)?;
-    print_number(out, up.taken as usize)?;
-    print_number(out, down.taken as usize)
+    print_number(out, control.client.held)?;
+    print_number(out, control.server.held)?;
+    print_number(out, session.up.taken as usize)?;
+    print_number(out, session.down.taken as usize)
 }
 
 fn print_number(out: &mut impl Write, n: usize) -> io::Result<()> {

@@ -7,7 +7,8 @@ use native.Mathlib.Numerals.{add-one}
 use native.Mathlib.Omega.{arith}
 use borrow.Author.Tests.{eq-eqb, ne_eqb}
 use lib.Dec.{eqb}
-use lib.ListN.{length, get_or, take, drop, length-append}
+use lib.ListN.{length, get_or, take, drop, length-append, length-drop}
+use Rattle.std.proofs.lemmas.List.{get_or-drop}
 use lib.Seq.{take-add, take-suc, take_all, length-take-le}
 use Rattle.rules.specs.Octets.{iac, choose, is_not, run}
 use Rattle.rules.specs.Lines.{passed}
@@ -26,14 +27,6 @@ module _ (x : ℕ) where
   pub passed-other : (x ≡ iac → ⊥) → passed (x ∷ []) ≡ x ∷ []
   unfolding passed
   passed-other n = choose-false _ _ (ne_eqb x iac n)
-
--- a line, and the octet behind it
-module _ (s : List ℕ) (x : ℕ) where
-  pub line-iac : x ≡ iac → length (passed s ++ passed (x ∷ [])) ≡ length (passed s) + 2
-  line-iac e = rw (passed-iac x e) (length-append (passed s) (iac ∷ iac ∷ []))
-
-  pub line_other : (x ≡ iac → ⊥) → length (passed s ++ passed (x ∷ [])) ≡ length (passed s) + 1
-  line_other n = rw (passed-other x n) (length-append (passed s) (x ∷ []))
 
 module _ (s : List ℕ) where
   -- up to i, and the octet there
@@ -67,6 +60,13 @@ module _ (s : List ℕ) where
 
   pub counted-most : (i : ℕ) → i ≤ length s → length (passed (take i s)) ≤ 2 * i
   counted-most i h = omega (arith, passed-most (take i s), length-take-le i s h)
+
+-- an octet behind the front e, by its place there
+pub octet-behind : (s : List ℕ) (e i : ℕ) → i < length (take (length s - e) (drop e s))
+    → (get_or (take (length s - e) (drop e s)) i 0 ≡ get_or s (e + i) 0) × (e + i < length s)
+octet-behind s e i h =
+    let all : take (length s - e) (drop e s) ≡ drop e s = take_all (length s - e) (drop e s) (omega (arith, length-drop e s)) in
+    (ap (λ (l : List ℕ). get_or l i 0) all ∙ get_or-drop e s i 0, omega (arith, ap length all, length-drop e s))
 
 -- the octets up to i put, and then the run behind them, or the octet there
 module _ (out : List ℕ) (at : ℕ) (s : List ℕ) (i : ℕ) {after : List ℕ} {next : ℕ} (done : PutInRoom out at (passed (take i s)) next after) where

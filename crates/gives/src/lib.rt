@@ -12,9 +12,6 @@ use search::find_iac;
 
 const IAC: u8 = 255;
 
-// The largest number of octets that is told.
-const MOST_COUNTED: usize = 18446744073709551615;
-
 // What an octet gives: nothing since it is held; nothing; itself, as it passes at once; itself, in a line that flows;
 // the held octets and itself; or a line of the gateway's.
 #[derive(Clone, Copy)]
@@ -38,8 +35,7 @@ pub fn gives_length(gives: Gives, fixed: Fixed, held: &[u8], x: u8) -> usize
 {
     let mapped = fixed.mapped;
     match gives {
-        Gives::Held => 0,
-        Gives::Nothing => 0,
+        Gives::Held | Gives::Nothing => 0,
         Gives::Octet => 1,
         Gives::LineOctet => octet_length(x),
         Gives::HeldAndOctet => line_length(held, x),
@@ -62,13 +58,7 @@ fn octet_length(x: u8) -> usize
 fn line_length(held: &[u8], x: u8) -> usize
     ensures { result ≡ min (length (passed held.now ++ passed (x ∷ []))) most_counted }
 {
-    let n = passed_length(held) + 1;
-    if x == IAC {
-        if n < MOST_COUNTED {
-            return n + 1;
-        }
-    }
-    n
+    passed_length(held).saturating_add(octet_length(x))
 }
 
 // The octets given are put into a buffer; where they do not fit, nothing is.
@@ -78,8 +68,7 @@ pub fn put_gives(out: &mut [u8], at: usize, gives: Gives, fixed: Fixed, held: &[
 {
     let mapped = fixed.mapped;
     match gives {
-        Gives::Held => at,
-        Gives::Nothing => at,
+        Gives::Held | Gives::Nothing => at,
         Gives::Octet => put_octet(out, at, x),
         Gives::LineOctet => put_line_octet(out, at, x),
         Gives::HeldAndOctet => put_line(out, at, held, x),
@@ -111,11 +100,10 @@ fn put_line_octet(out: &mut [u8], at: usize, x: u8) -> usize
 pub fn passed_length(held: &[u8]) -> usize
     ensures { result ≡ length (passed held.now) }
 {
-    let mut i = find_iac(held, 0);
-    let mut n = i;
-    while i < held.len() {
-        n += octet_length(held[i]);
-        i += 1;
+    let front = find_iac(held, 0);
+    let mut n = front;
+    for x in &held[front..] {
+        n += octet_length(*x);
     }
     n
 }
@@ -142,7 +130,7 @@ fn put_counted(out: &mut [u8], at: usize, held: &[u8], n: usize) -> usize
     put_doubled(out, at, held)
 }
 
-// By the runs between the octets 255.
+// By the runs between the octets 255, each found many octets at once and moved whole.
 fn put_doubled(out: &mut [u8], at: usize, held: &[u8]) -> usize
     ensures { PutInRoom out.old at (passed held.now) result out.new }
 {
@@ -165,14 +153,8 @@ fn put_line(out: &mut [u8], at: usize, held: &[u8], x: u8) -> usize
     ensures { let text = passed held.now ++ passed (x ∷ []) in
         Put out.old at text result out.new }
 {
-    if out.len() < at {
-        return at;
-    }
     let n = passed_length(held);
-    if out.len() - at < n {
-        return at;
-    }
-    if out.len() - at - n < octet_length(x) {
+    if !has_room(out.len(), at, n) || !has_room(out.len(), at + n, octet_length(x)) {
         return at;
     }
     let next = put_counted(out, at, held, n);

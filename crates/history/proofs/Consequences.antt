@@ -2,7 +2,7 @@
 use mathlib.Core.Path.{◌≡◌, refl, sym, ap, ◌∙◌, subst}
 use mathlib.Core.Bool.{Bool, true, false, true≢false}
 use mathlib.Core.List.{List, [], ◌∷◌, ◌++◌}
-use mathlib.Core.Option.{Option, none, some}
+use Rattle.std.specs.Prelude.{Option, None, Some}
 use Prim.Native.Nat.{ℕ, ◌-◌}
 use lib.ListN.{length, take, drop}
 use Rattle.rules.specs.Answers.{Side, client, side_of, fits, stop}
@@ -70,13 +70,13 @@ only-adds su l m more a b not_ended text =
 -- ---- a refused call
 
 abbrev refuses : Option Answer → Bool
-refuses none = false
-refuses (some a) = is_refusal a
+refuses None = false
+refuses (Some a) = is_refusal a
 
 stop-refuses : (full fitting : Bool) → refuses (stop full fitting) ≡ false
 stop-refuses full fitting = stop-cases (λ o. refuses o ≡ false) full fitting (λ _. refl) (λ _ _. refl) (λ _ _. refl)
 
-not-refused : (full fitting : Bool) (a : Answer) → stop full fitting ≡ some a → is_refusal a ≡ false
+not-refused : (full fitting : Bool) (a : Answer) → stop full fitting ≡ Some a → is_refusal a ≡ false
 not-refused full fitting a e = ap refuses (sym e) ∙ stop-refuses full fitting
 
 -- what stops an arrival between octets is no refusal

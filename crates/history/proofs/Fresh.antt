@@ -1,4 +1,5 @@
 -- Document 01's rules are those that the session follows, and a fresh session stands where the readings begin.
+use Rattle.std.specs.Prelude.{Option, None, Some}
 use mathlib.Core.Path.{◌≡◌, refl, ap, ◌∙◌}
 use mathlib.Core.Bool.{Bool, true, false}
 use mathlib.Core.List.{List, [], ◌∷◌, ◌++◌}
@@ -51,10 +52,10 @@ unread : (f : Fixed) (l : List ℕ) → gives_text f l lf Gives.HeldAndOctet ≡
 unfolding gives_text passed choose
 unread f l = refl
 
-passive-gives : (f : Fixed) (l : List ℕ) (r : PassiveReply) → gives_text f l lf (passive_effect f r) ≡ passive_gives f l r
+passive-gives : (f : Fixed) (l : List ℕ) (r : Option PassiveReply) → gives_text f l lf (passive_effect f r) ≡ passive_gives f l r
 unfolding passive_effect passive_gives
-passive-gives f l (PassiveReply.At a b c d p) = named-gives f l p (foreign f (a ∷ b ∷ c ∷ d ∷ []))
-passive-gives f l PassiveReply.Unreadable = unread f l
+passive-gives f l (Some n) = named-gives f l n.port (foreign f n.address)
+passive-gives f l None = unread f l
 
 final-gives : (f : Fixed) (k : Kind) (l : List ℕ) → gives_text f l lf (kind_effect f k (content l)) ≡ final_gives f k l
 unfolding gives_text kind_effect final_gives passed choose

@@ -1,4 +1,6 @@
 -- Where a direction of the record stands and where the reading has it, and one octet's effect on both.
+use Rattle.std.specs.Prelude.{Option}
+use Rattle.std.specs.Prelude.{None, Some}
 use mathlib.Core.Path.{◌≡◌, refl, sym, ap, ◌∙◌}
 use mathlib.Core.Bool.{Bool, true, false}
 use mathlib.Core.List.{List, [], ◌∷◌, ◌++◌}
@@ -48,7 +50,6 @@ use Rattle.rules.specs.declared.PassiveReply.{PassiveReply}
 use Rattle.octets.proofs.Choices.{either}
 use Rattle.places.specs.declared.Place.{Place}
 use Rattle.gives.specs.declared.Gives.{Gives}
-use Rattle.queue.specs.declared.Owes.{Owes}
 use Rattle.upstream.specs.declared.ClientEffect.{ClientEffect}
 use Rattle.downstream.specs.declared.ServerEffect.{ServerEffect}
 use Rattle.gives.specs.Text.{gives_text}
@@ -227,7 +228,7 @@ module _ (f : Fixed) (rules : LineRules) (agree : Agrees f rules) where
 
     -- another octet, with which the line is not yet let go
     held_fits : (line : List ℕ) (n x : ℕ) → Full line → n + 1 < judged
-        → ClientFits agree line n x (client_effect_of Gives.Held (at Place.Holding (n + 1)) sw Owes.Nothing)
+        → ClientFits agree line n x (client_effect_of Gives.Held (at Place.Holding (n + 1)) sw None)
         (line_octet_gives (joined line n x) x) (joins st (joined line n x))
     unfolding line_octet_gives joins choose gives_text stored
     held_fits line n x full h =
@@ -238,7 +239,7 @@ module _ (f : Fixed) (rules : LineRules) (agree : Agrees f rules) where
     -- the octet that lets the line go, which may be AUTH
     go-fits : (line : List ℕ) (n x : ℕ) → Full line → length (joined line n x) ≡ judged → (a : Bool) → starts_auth (joined line n x) ≡ a
         → ClientFits agree line n x
-        (choose a (client_effect_of Gives.HeldAndOctet (at Place.Passing 0) sw (Owes.One Kind.Auth)) (client_effect_of Gives.HeldAndOctet (at Place.Flowing 0) sw Owes.Nothing))
+        (choose a (client_effect_of Gives.HeldAndOctet (at Place.Passing 0) sw (Some Kind.Auth)) (client_effect_of Gives.HeldAndOctet (at Place.Flowing 0) sw None))
         (line_octet_gives (joined line n x) x) (joins st (joined line n x))
     unfolding line_octet_gives joins choose gives_text stored
     go-fits line n x full size true e =
@@ -289,11 +290,10 @@ module _ (f : Fixed) (rules : LineRules) (agree : Agrees f rules) where
 
   -- ---- of the server
 
-  stored-passive : (line : List ℕ) (n x : ℕ) (r : PassiveReply) → stored line n x (passive_effect f r) ≡ line
+  stored-passive : (line : List ℕ) (n x : ℕ) (r : Option PassiveReply) → stored line n x (passive_effect f r) ≡ line
   unfolding stored passive_effect
-  stored-passive line n x (PassiveReply.At a b c d p) =
-      either (λ (g : Gives). stored line n x g ≡ line) (foreign f (a ∷ b ∷ c ∷ d ∷ [])) _ _ refl refl
-  stored-passive line n x PassiveReply.Unreadable = refl
+  stored-passive line n x None = refl
+  stored-passive line n x (Some r) = either (λ (g : Gives). stored line n x g ≡ line) (foreign f r.address) _ _ refl refl
 
   stored-first : (line : List ℕ) (n x : ℕ) (ks : List Kind) (c : List ℕ) → stored line n x (head_effect f (first_of ks) c) ≡ line
   unfolding stored head_effect kind_effect

@@ -1,4 +1,5 @@
 -- The array of kinds with its count, and the list of kinds that the reading has.
+use Rattle.std.specs.Prelude.{Option, None, Some}
 use mathlib.Core.Path.{◌≡◌, refl, ap, ◌∙◌}
 use mathlib.Core.Bool.{Bool, true, false}
 use mathlib.Core.List.{List, [], ◌∷◌, ◌++◌, map, append-nil}
@@ -12,7 +13,6 @@ use Rattle.rules.specs.Replies.{removed, owed_after, without_answers}
 use Rattle.rules.specs.declared.OwnAnswer.{OwnAnswer}
 use Rattle.rules.specs.declared.Kind.{Kind}
 use Rattle.rules.specs.declared.ReplyLine.{ReplyLine}
-use Rattle.queue.specs.declared.Owes.{Owes}
 use Rattle.queue.specs.Kinds.{
   pushed,
   state_code,
@@ -67,20 +67,20 @@ queue-fresh = record { same = refl; array = record { size = refl; most = lit≤ 
 
 -- ---- a kind is put behind the last one
 
-abbrev pub owes_list : Owes → List Kind
-owes_list Owes.Nothing = []
-owes_list (Owes.One k) = k ∷ []
+abbrev pub owes_list : Option Kind → List Kind
+owes_list None = []
+owes_list (Some k) = k ∷ []
 
 -- there is room for what is owed
-abbrev pub RoomFor : ℕ → Owes → Type 0
-RoomFor owed Owes.Nothing = Unit {0}
-RoomFor owed (Owes.One k) = owed < most_owed
+abbrev pub RoomFor : ℕ → Option Kind → Type 0
+RoomFor owed None = Unit {0}
+RoomFor owed (Some k) = owed < most_owed
 
-pub queue-push : {kinds : List ℕ} {owed : ℕ} {ks : List Kind} → Queue kinds owed ks → (o : Owes) → RoomFor owed o
+pub queue-push : {kinds : List ℕ} {owed : ℕ} {ks : List Kind} → Queue kinds owed ks → (o : Option Kind) → RoomFor owed o
     → Queue (pushed kinds owed o) (owed_then owed o) (ks ++ owes_list o)
 unfolding pushed owed_then queue_of
-queue-push {kinds} {owed} {ks} q Owes.Nothing h = rw (append-nil ks) q
-queue-push {kinds} {owed} {ks} q (Owes.One k) h =
+queue-push {kinds} {owed} {ks} q None h = rw (append-nil ks) q
+queue-push {kinds} {owed} {ks} q (Some k) h =
     let put : take (owed + 1) (set kinds owed (code_of k)) ≡ take owed kinds ++ (code_of k ∷ []) =
     pushed_front kinds owed k (omega (arith, q.array.size)) in
     record {
@@ -101,9 +101,9 @@ queue-leave {kinds} {owed} {ks} q m =
 -- ---- the first kind, and what a server line removes
 
 -- the kind that comes first
-abbrev pub first_of : List Kind → Owes
-first_of [] = Owes.Nothing
-first_of (k ∷ ks) = Owes.One k
+abbrev pub first_of : List Kind → Option Kind
+first_of [] = None
+first_of (k ∷ ks) = Some k
 
 head_first : (kinds : List ℕ) (owed : ℕ) → owed ≤ length kinds → head_of kinds owed ≡ first_of (queue_of kinds owed)
 unfolding head_of queue_of choose

@@ -2,7 +2,7 @@
 use mathlib.Core.Path.{◌≡◌, refl, sym, ap, ◌∙◌, subst}
 use mathlib.Core.Bool.{Bool, false}
 use mathlib.Core.List.{List, [], ◌∷◌, ◌++◌, map, append-nil}
-use mathlib.Core.Option.{Option, none, some}
+use Rattle.std.specs.Prelude.{Option, None, Some}
 use Prim.Native.Nat.{ℕ, ◌-◌, ◌≤◌}
 use lib.Dec.{eqb}
 use native.Mathlib.Omega.{arith}
@@ -41,7 +41,6 @@ use Rattle.rules.specs.declared.Kind.{Kind}
 use Rattle.rules.specs.declared.Switches.{Switches}
 use Rattle.rules.specs.declared.Layer.{Layer}
 use Rattle.places.specs.declared.Direction.{Direction}
-use Rattle.queue.specs.declared.Owes.{Owes}
 use Rattle.upstream.specs.declared.ClientEffect.{ClientEffect}
 use Rattle.downstream.specs.declared.ServerEffect.{ServerEffect}
 use Rattle.queue.specs.Kinds.{head_of}
@@ -123,10 +122,10 @@ module _ {f : Fixed} {rules : LineRules} (agree : Agrees f rules) where
 
 -- ---- room in the queue
 
-room_for : (owed : ℕ) (o : Owes) → owed_then owed o ≤ most_owed → RoomFor owed o
+room_for : (owed : ℕ) (o : Option Kind) → owed_then owed o ≤ most_owed → RoomFor owed o
 unfolding owed_then
-room_for owed Owes.Nothing h = tt
-room_for owed (Owes.One k) h = omega arith
+room_for owed None h = tt
+room_for owed (Some k) h = omega arith
 
 -- number 1 does not stop the side's octets
 abbrev NotFull : Side → State → Type 0
@@ -156,7 +155,7 @@ module _ (f : Fixed) (rules : LineRules) (agree : Agrees f rules) where
   unfolding server_effect_in server_effect
   server-effect s m x a = by-queue s.control.opening m.server.opening (head_of s.kinds s.control.owed) a.server.opening (queue-first a.server.queue)
     where
-      by-queue : (u u' : ℕ) (o : Owes) → u ≡ u' → o ≡ first_of m.server.owed
+      by-queue : (u u' : ℕ) (o : Option Kind) → u ≡ u' → o ≡ first_of m.server.owed
           → ServerFits f s.reply s.control.server.held x m.server.owed (server_effect f u o s.control.server s.reply x)
           (server_octet rules m.server.place m.server.owed u' x)
       by-queue u u' o e g = rw (e, g) (server-fits f rules agree u' m.server.owed a.server.place a.server.full x)
@@ -174,7 +173,7 @@ module _ (f : Fixed) (rules : LineRules) (agree : Agrees f rules) where
       }
 
   client-line : (s : State) (m : Moment rules.LineState) (does : Does) (x : ℕ) → Alike agree s m → NotFull client s
-      → Same agree (client_step f s x) (client_item m does (some x))
+      → Same agree (client_step f s x) (client_item m does (Some x))
   unfolding client_step client_state settled_control settled_state after_octet client_read
   client-line s m does x a not_full =
       let e : ClientEffect = client_effect_in f s x in
@@ -218,8 +217,8 @@ module _ (f : Fixed) (rules : LineRules) (agree : Agrees f rules) where
   client-by : (s : State) (m : Moment rules.LineState) (does : Does) (o : Option ℕ) → Alike agree s m → NotFull client s
       → Same agree (step_by f client s does o) (client_item m does o)
   unfolding step_by line_step telnet_step client_read
-  client-by s m does none a not_full = telnet-same s m (command_of does) (answer_of does) a
-  client-by s m does (some x) a not_full = client-line s m does x a not_full
+  client-by s m does None a not_full = telnet-same s m (command_of does) (answer_of does) a
+  client-by s m does (Some x) a not_full = client-line s m does x a not_full
 
   -- ---- the same of the server's
 

@@ -1,4 +1,5 @@
 -- Our session as a gateway of demand 3: its record, a fresh one, what its functions promise, its offsets and what it removed.
+use Rattle.std.specs.Prelude.{Option, None, Some}
 use Rattle.std.specs.Prelude.{◌≡◌, List, [], ◌∷◌, ◌++◌, ℕ, length, take, drop}
 use Rattle.rules.specs.Answers.{Side, client, server, side_of}
 use Rattle.rules.specs.declared.Setup.{Setup}
@@ -10,7 +11,6 @@ use Rattle.records.specs.declared.Session.{Session}
 use Rattle.records.specs.Controls.{layer_in}
 use Rattle.steps.specs.Steps.{State, Step, octet_step}
 use Rattle.session.specs.declared.Called.{Called}
-use Rattle.counts.specs.declared.DirectionOffset.{DirectionOffset}
 use Rattle.setups.specs.Setups.{prepared}
 use Rattle.counts.specs.Counts.{offset as session_offset}
 use Rattle.session.specs.Calls.{Outcome, state_of, arrived, end_step, end_called as session_ended}
@@ -85,9 +85,9 @@ direction_number client = 0
 direction_number server = 1
 
 -- the number that offset returns; it returns one for both directions
-abbrev pub returned_offset : DirectionOffset → ℕ
-returned_offset (DirectionOffset.Is n) = n
-returned_offset DirectionOffset.UnknownDirection = 0
+abbrev pub returned_offset : Option ℕ → ℕ
+returned_offset (Some n) = n
+returned_offset None = 0
 
 -- the session as a gateway: these, its offsets, and the counts of octets removed
 abbrev pub gateway : Gateway

@@ -1,7 +1,7 @@
 -- An arrival on an image, from what the functions that it calls return.
 use Rattle.std.proofs.Common.{◌≡◌, ℕ, ◌+◌, ◌≤◌, Bool, true, false, not, leb, List, [], ◌∷◌, ◌++◌, length, take, drop, sym, refl, ap, ◌∙◌, subst, append_assoc, arith, length-drop, take-append-drop, length-take-le, take_all, take-take, drop-drop}
 use mathlib.Core.Bool.{false≢true}
-use mathlib.Core.Option.{Option, none, some}
+use Rattle.std.specs.Prelude.{Option, None, Some}
 use lib.Seq.{take-append-le}
 use borrow.Author.Tests.{not-false}
 use borrow.Rule.Slice.PartMut.{put_mid, post_of, same_len_mid}
@@ -14,9 +14,8 @@ use Rattle.output.specs.Buffer.{put_at}
 use Rattle.records.specs.declared.Control.{Control}
 use Rattle.records.specs.declared.Counts.{Counts}
 use Rattle.records.specs.declared.Session.{Session}
-use Rattle.records.specs.declared.Refusal.{Refusal}
-use Rattle.records.specs.Sound.{sound, refusal_of, refusal_by, Counted}
-use Rattle.records.proofs.Refusals.{refusal-cases, by_answer, countable}
+use Rattle.records.specs.Sound.{sound, refusal_of, Counted}
+use Rattle.records.proofs.Refusals.{refusal-cases, countable}
 use Rattle.rules.specs.declared.Fixed.{Fixed}
 use Rattle.rules.specs.Setup.{ipv6_width, ipv4_width}
 use Rattle.arrivals.specs.declared.Taken.{Taken}
@@ -118,7 +117,7 @@ Left o r image image' out out' other other' =
     (Tells r o.called × (image' ≡ image_after image o.called)) × ((out' ≡ server_after o out) × (other' ≡ client_after o other))
 
 module _ (image octets out other : List ℕ) (d : ℕ) (side : Side) (same : side ≡ side_of d) (room : image_size ≤ length image)
-    (free : refusal_of (fields_in image) d ≡ none) where
+    (free : refusal_of (fields_in image) d ≡ None) where
   abbrev s : Session
   s = fields_in image
 
@@ -210,26 +209,26 @@ module _ (image octets out other : List ℕ) (d : ℕ) (side : Side) (same : sid
 -- ---- a refusal
 
 -- "With 3, 4 and 6 nothing is written and the record comes back equal"
-refused-below : (d : ℕ) (sound ended : Bool) (a : Answer) → refusal d sound ended ≡ some a → leb 3 (answer_number a) ≡ true
+refused-below : (d : ℕ) (sound ended : Bool) (a : Answer) → refusal d sound ended ≡ Some a → leb 3 (answer_number a) ≡ true
 refused-below d sound ended a =
-    refusal-cases (λ (o : Option Answer). o ≡ some a → leb 3 (answer_number a) ≡ true) d sound ended
+    refusal-cases (λ (o : Option Answer). o ≡ Some a → leb 3 (answer_number a) ≡ true) d sound ended
     (λ t q. ap told (sym q)) (λ t u q. ap told (sym q)) (λ t u v q. ap told (sym q)) (λ t u v q. cc)
   where
     told : Option Answer → Bool
-    told none = false
-    told (some b) = leb 3 (answer_number b)
+    told None = false
+    told (Some b) = leb 3 (answer_number b)
 
 -- what code tells of it
 abbrev pub ToldOnly : Told → Answer → Type 0
 ToldOnly r a = r ≡ record { answer = a; taken = 0; written = record { server = 0; client = 0 } }
 
-module _ (image out other : List ℕ) (d : ℕ) {q : Refusal} {a : Answer} {r : Told} (p : q ≡ refusal_by (refusal_of (session_of image) d)) (e : q ≡ Refusal.By a)
+module _ (image out other : List ℕ) (d : ℕ) {q : Option Answer} {a : Answer} {r : Told} (p : q ≡ refusal_of (session_of image) d) (e : q ≡ Some a)
     (told : ToldOnly r a) where
   -- the call w is refused before it is made
   turned-away : (w : Outcome) → Left (unless_refused (refusal_of (session_of image) d) (session_of image) w) r image image out out other other
   unfolding unless_refused refused image_after server_after client_after choose refusal_of
   turned-away w =
-      let by = by_answer (refusal_of (session_of image) d) a (sym p ∙ e) in
+      let by = sym p ∙ e in
       rw (by, told) ((record { answer = refl; taken = refl; written = refl }, rw (refused-below d _ _ a by)), (refl, refl))
 
   pub arrival-refused : (octets : List ℕ) → Left (arrived_on image d octets out other) r image image out out other other
@@ -242,12 +241,12 @@ module _ (image out other : List ℕ) (d : ℕ) {q : Refusal} {a : Answer} {r : 
 
 -- ---- memory whose record refuses nothing is an image
 
-dead-refuses : (d : ℕ) → refusal_of dead_session d ≡ none → false ≡ true
+dead-refuses : (d : ℕ) → refusal_of dead_session d ≡ None → false ≡ true
 unfolding refusal_of sound sound_record dead_session
 dead-refuses d =
-    refusal-cases (λ (o : Option Answer). o ≡ none → false ≡ true) d false _ (λ t q. cc) (λ t u q. cc) (λ t u v q. u) (λ t u v q. u)
+    refusal-cases (λ (o : Option Answer). o ≡ None → false ≡ true) d false _ (λ t q. cc) (λ t u q. cc) (λ t u v q. u) (λ t u v q. u)
 
-module _ (image : List ℕ) (d : ℕ) (free : refusal_of (session_of image) d ≡ none) where
+module _ (image : List ℕ) (d : ℕ) (free : refusal_of (session_of image) d ≡ None) where
   by-test : (b : Bool) → b ≡ is_image image → not b ≡ false
   by-test true e = refl
   by-test false e = absurd (false≢true (dead-refuses d (ap (λ (s : Session). refusal_of s d) (no-image image e refl) ∙ free)))
@@ -265,5 +264,5 @@ module _ (image : List ℕ) (d : ℕ) (free : refusal_of (session_of image) d �
   pub free-counts : {c : Control} → c ≡ control_in image → Counted c
   unfolding fields_in
   free-counts e =
-      let k = countable (fields_in image) d (subst (λ (s : Session). refusal_of s d ≡ none) (sym free-fields) free) in
+      let k = countable (fields_in image) d (subst (λ (s : Session). refusal_of s d ≡ None) (sym free-fields) free) in
       subst Counted (sym e) (record { owed = k.owed; command = k.command; reply = k.reply })

@@ -1,6 +1,6 @@
 -- An end on an image, from what the functions that it calls return.
 use Rattle.std.proofs.Common.{◌≡◌, ℕ, ◌+◌, ◌-◌, ◌*◌, ◌^◌, ◌<◌, ◌≤◌, true, List, length, get_or, take, drop, sym, refl, ap, ◌∙◌, subst, arith, length-drop, length-take-le, take-take}
-use mathlib.Core.Option.{none}
+use Rattle.std.specs.Prelude.{None}
 use Rattle.rules.specs.Octets.{choose}
 use Rattle.rules.specs.Answers.{Side, client, server}
 use Rattle.rules.specs.declared.Answer.{Answer}
@@ -112,7 +112,7 @@ module _ (image out : List ℕ) (ok : is_image image ≡ true) (d : Side) {h at 
 
 -- ---- an end of a direction by its number
 
-module _ (image out other : List ℕ) (d : ℕ) (free : refusal_of (session_of image) d ≡ none) where
+module _ (image out other : List ℕ) (d : ℕ) (free : refusal_of (session_of image) d ≡ None) where
   abbrev fields : Session
   fields = fields_in image
 
@@ -123,8 +123,8 @@ module _ (image out other : List ℕ) (d : ℕ) (free : refusal_of (session_of i
   of_fields : {o : Outcome} → end_called fields d (length out) (length other) ≡ o → o ≡ end_called (session_of image) d (length out) (length other)
   of_fields e = sym e ∙ ap (λ (x : Session). end_called x d (length out) (length other)) same
 
-  fields_free : refusal_of fields d ≡ none
-  fields_free = subst (λ (x : Session). refusal_of x d ≡ none) (sym same) free
+  fields_free : refusal_of fields d ≡ None
+  fields_free = subst (λ (x : Session). refusal_of x d ≡ None) (sym same) free
 
   module _ {r : Told} {image' changed : List ℕ} where
     pub client-left : d ≡ 0 → LeftOne client (held_end fields client (length out)) r image image' out changed

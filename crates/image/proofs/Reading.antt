@@ -1,4 +1,5 @@
 -- A part of an image copied into an array, and the places that have the same number.
+use Rattle.std.specs.Prelude.{Option, Some}
 use Rattle.std.proofs.Common.{◌≡◌, ℕ, zero, suc, ◌+◌, ◌<◌, ◌≤◌, Bool, true, false, not, ◌&&◌, leb, List, length, get_or, drop, replicate, sym, refl, ap, ◌∙◌, arith, length-drop, length-take-le, le-leb, leb-true}
 use borrow.Author.Tests.{lt-leb, not-true, not-false}
 use Rattle.rules.specs.Octets.{choose}
@@ -16,8 +17,7 @@ use Rattle.output.proofs.Front.{filled}
 use Rattle.records.specs.declared.Control.{Control}
 use Rattle.records.specs.declared.Counts.{Counts}
 use Rattle.records.specs.declared.Session.{Session}
-use Rattle.records.specs.declared.Refusal.{Refusal}
-use Rattle.records.specs.Sound.{sound, refusal_on, refusal_of, refusal_by}
+use Rattle.records.specs.Sound.{sound, refusal_on, refusal_of}
 use Rattle.records.proofs.Refusals.{unsound}
 use Rattle.setups.specs.Setups.{dead_session}
 use Rattle.image.specs.Image.{place_of, telnet_of, is_set, part, count_at, counts_at, control_in, fields_in, at_most, is_image, session_of}
@@ -127,18 +127,18 @@ module _ (image : List ℕ) where
 
 -- ---- what refuses a call on the record of an image
 
-dead-refused : (d : ℕ) → d < 2 → Refusal.By Answer.BadRecord ≡ refusal_by (refusal_of dead_session d)
+dead-refused : (d : ℕ) → d < 2 → Some Answer.BadRecord ≡ refusal_of dead_session d
 unfolding refusal_of sound sound_record dead_session
 dead-refused d h = unsound d _ _ h {s' = false} refl refl
 
 module _ (image : List ℕ) (d : ℕ) {b : Bool} (e : b ≡ is_image image) where
-  pub refused-no-image : not b ≡ true → d < 2 → Refusal.By Answer.BadRecord ≡ refusal_by (refusal_of (session_of image) d)
-  refused-no-image t h = dead-refused d h ∙ ap (λ (s : Session). refusal_by (refusal_of s d)) (no-image image e t)
+  pub refused-no-image : not b ≡ true → d < 2 → Some Answer.BadRecord ≡ refusal_of (session_of image) d
+  refused-no-image t h = dead-refused d h ∙ ap (λ (s : Session). refusal_of s d) (no-image image e t)
 
-  pub refused-image : not b ≡ false → {r : Refusal} → r ≡ refusal_by (refusal_of (fields_in image) d) → r ≡ refusal_by (refusal_of (session_of image) d)
-  refused-image t r = r ∙ ap (λ (s : Session). refusal_by (refusal_of s d)) (is-image image e t)
+  pub refused-image : not b ≡ false → {r : Option Answer} → r ≡ refusal_of (fields_in image) d → r ≡ refusal_of (session_of image) d
+  refused-image t r = r ∙ ap (λ (s : Session). refusal_of s d) (is-image image e t)
 
 pub refused-by-parts : (image : List ℕ) (d : ℕ) {control : Control} → control ≡ control_in image → {kinds : List ℕ} → kinds ≡ part image kinds_at most_owed
-    → {r : Refusal} → r ≡ refusal_by (refusal_on (is_set image live_at) control kinds d) → r ≡ refusal_by (refusal_of (fields_in image) d)
+    → {r : Option Answer} → r ≡ refusal_on (is_set image live_at) control kinds d → r ≡ refusal_of (fields_in image) d
 unfolding refusal_of sound fields_in
 refused-by-parts image d p q r = r ∙ rw (p, q)

@@ -6,7 +6,7 @@ ghost use Rattle.image.specs.Lent.{arrived_on, image_after, server_after, client
 use crate::{control_in, counts_at, put_back, refusal_at};
 use arrivals::take;
 use counts::counts_then;
-use records::{Refusal, layout};
+use records::layout;
 use rules::Answer;
 use steps::Written;
 
@@ -37,7 +37,7 @@ pub fn arrive_at(
         (to_server.new ≡ server_after o server)
         × (to_client.new ≡ client_after o client) }
 {
-    if let Refusal::By(answer) = refusal_at(image, direction) {
+    if let Some(answer) = refusal_at(image, direction) {
         return nothing_written(answer);
     }
     let from_client = direction == 0;

@@ -12,7 +12,7 @@ use crate::arrival::nothing_written;
 use crate::{Told, control_in, is_image, number_at, put_number, refusal_in};
 use counts::written_from;
 use gives::{passed_length, put_passed};
-use records::{Refusal, direction_of, layout, unfinished_of};
+use records::{direction_of, layout, unfinished_of};
 use rules::Answer;
 use telnet::{put_unfinished, unfinished_length};
 
@@ -32,7 +32,7 @@ pub fn end_at(image: &mut [u8], direction: u8, to_server: &mut [u8], to_client: 
     if !is_image(image) {
         return nothing_written(Answer::BadRecord);
     }
-    if let Refusal::By(answer) = refusal_in(image, direction) {
+    if let Some(answer) = refusal_in(image, direction) {
         return nothing_written(answer);
     }
     if direction == 0 {

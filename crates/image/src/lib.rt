@@ -5,17 +5,16 @@ ghost use Rattle.std.specs.Prelude.{◌≡◌, ◌+◌, ◌≤◌, ◌++◌, len
 ghost use Rattle.rules.specs.Lines.{most_held};
 ghost use Rattle.records.specs.Layout.{number_width, epsv_at, opening_at, image_size};
 ghost use Rattle.output.specs.Buffer.{Put, put_at, PutInRoom};
-ghost use Rattle.records.specs.Sound.{refusal_of, refusal_by, Counted};
+ghost use Rattle.records.specs.Sound.{refusal_of, Counted};
 ghost use Rattle.setups.specs.Setups.{dead_session};
 ghost use Rattle.image.specs.Image.{mark_of as bit_of, place_number, telnet_number, four_octets, capped as capped_at};
 ghost use Rattle.image.specs.Image.{marks_in, marks_from, numbers_by, numbers_from, arrays_of, image_of, place_of};
 ghost use Rattle.image.specs.Image.{telnet_of, count_at, counts_at, control_in, fields_in};
 ghost use Rattle.image.specs.Image.{at_most, is_image, session_of};
 
-use output::{ipv4_from, ipv6_from, line_from, put};
+use output::{array_from, put};
 use places::{Direction, Place};
-use queue::kinds_from;
-use records::{Control, Counts, Refusal, Session, layout, refusal_on};
+use records::{Control, Counts, Session, layout, refusal_on};
 use rules::{Answer, Fixed, Layer, Switches, Telnet};
 use setups::refused_setup;
 
@@ -95,36 +94,20 @@ fn put_control(out: &mut [u8], at: usize, control: Control) -> usize
 fn bit(set: bool) -> u8
     ensures { result ≡ bit_of set }
 {
-    if set {
-        return 1;
-    }
-    0
+    u8::from(set)
 }
 
+// The numbers of places and Telnet states are the image's, and the types are not: so there is no `From` for them.
 fn place_number(place: Place) -> u8
     ensures { result ≡ place_number place }
 {
-    match place {
-        Place::Holding => 0,
-        Place::Flowing => 1,
-        Place::Passing => 2,
-        Place::Ended => 3,
-    }
+    place as u8
 }
 
 fn telnet_number(telnet: Telnet) -> u8
     ensures { result ≡ telnet_number telnet }
 {
-    match telnet {
-        Telnet::Clear => 0,
-        Telnet::Iac => 1,
-        Telnet::Will => 2,
-        Telnet::Wont => 3,
-        Telnet::Do => 4,
-        Telnet::Dont => 5,
-        Telnet::Within => 6,
-        Telnet::WithinIac => 7,
-    }
+    telnet as u8
 }
 
 // The opening code, the replies owed and the octets held of the client's and the server's line, then what is counted,
@@ -161,10 +144,7 @@ fn put_numbers(
 fn capped(n: usize) -> u32
     ensures { result ≡ capped_at n }
 {
-    if n <= 4294967295 {
-        return n as u32;
-    }
-    4294967295
+    u32::try_from(n).unwrap_or(u32::MAX)
 }
 
 // A count that an array can hold needs no cap: a call writes three of them.
@@ -179,13 +159,7 @@ fn uncapped(n: usize) -> u32
 fn put_number(out: &mut [u8], at: usize, n: u32) -> usize
     ensures { Put out.old at (four_octets n) result out.new }
 {
-    let octets = [
-        (n % 256) as u8,
-        (n / 256 % 256) as u8,
-        (n / 65536 % 256) as u8,
-        (n / 16777216 % 256) as u8,
-    ];
-    put(out, at, &octets)
+    put(out, at, &n.to_le_bytes())
 }
 
 fn put_arrays(out: &mut [u8], at: usize, session: Session) -> usize
@@ -257,14 +231,7 @@ fn dead() -> Session
 fn at_most(octets: &[u8], most: u8) -> bool
     ensures { result ≡ at_most most octets.now }
 {
-    let mut i = 0;
-    while i < octets.len() {
-        if octets[i] > most {
-            return false;
-        }
-        i += 1;
-    }
-    true
+    octets.iter().all(|x| *x <= most)
 }
 
 fn fields(image: &[u8]) -> Session
@@ -274,12 +241,12 @@ fn fields(image: &[u8]) -> Session
     let live = image[layout::LIVE] == 1;
     let supported = image[layout::SUPPORTED] == 1;
     let strict = image[layout::STRICT] == 1;
-    let client = ipv6_from(&image[layout::CLIENT..layout::MAPPED]);
-    let mapped = ipv4_from(&image[layout::MAPPED..layout::SERVER]);
-    let server = ipv4_from(&image[layout::SERVER..layout::KINDS]);
-    let kinds = kinds_from(&image[layout::KINDS..layout::COMMAND]);
-    let command = line_from(&image[layout::COMMAND..layout::REPLY]);
-    let reply = line_from(&image[layout::REPLY..layout::SIZE]);
+    let client = array_from(&image[layout::CLIENT..layout::MAPPED]);
+    let mapped = array_from(&image[layout::MAPPED..layout::SERVER]);
+    let server = array_from(&image[layout::SERVER..layout::KINDS]);
+    let kinds = array_from(&image[layout::KINDS..layout::COMMAND]);
+    let command = array_from(&image[layout::COMMAND..layout::REPLY]);
+    let reply = array_from(&image[layout::REPLY..layout::SIZE]);
     let control = control_in(image);
     let up = counts_at(image, layout::UP_TAKEN);
     let down = counts_at(image, layout::DOWN_TAKEN);
@@ -303,22 +270,22 @@ fn fields(image: &[u8]) -> Session
 }
 
 // What refuses a call on the record of lent memory, which may be no image.
-fn refusal_at(image: &[u8], direction: u8) -> Refusal
-    ensures { result ≡ refusal_by (refusal_of (session_of image.now) direction) }
+fn refusal_at(image: &[u8], direction: u8) -> Option<Answer>
+    ensures { result ≡ refusal_of (session_of image.now) direction }
 {
     if 2 <= direction {
-        return Refusal::By(Answer::UnknownDirection);
+        return Some(Answer::UnknownDirection);
     }
     if !is_image(image) {
-        return Refusal::By(Answer::BadRecord);
+        return Some(Answer::BadRecord);
     }
     refusal_in(image, direction)
 }
 
 // The same of an image, told from its marks, numbers and kinds alone.
-fn refusal_in(image: &[u8], direction: u8) -> Refusal
+fn refusal_in(image: &[u8], direction: u8) -> Option<Answer>
     requires { image_size ≤ length image.now }
-    ensures { result ≡ refusal_by (refusal_of (fields_in image.now) direction) }
+    ensures { result ≡ refusal_of (fields_in image.now) direction }
 {
     let control = control_in(image);
     let kinds = &image[layout::KINDS..layout::COMMAND];

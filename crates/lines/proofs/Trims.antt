@@ -1,12 +1,11 @@
--- Laws of a text without the octets at its end that pass a test, at an index, for loops.
-use mathlib.Core.Path.{◌≡◌, refl, sym, ap, ◌∙◌}
-use mathlib.Core.Bool.{Bool, true, false}
-use mathlib.Core.List.{List, [], ◌∷◌, ◌++◌}
-use Prim.Native.Nat.{ℕ, suc, ◌+◌, ◌-◌, ◌<◌, ◌≤◌}
-use native.Mathlib.Omega.{arith}
-use lib.ListN.{length, get_or, take, drop, length-drop}
-use lib.Seq.{take_all, take-suc, get_or-drop}
-use Rattle.rules.specs.Octets.{trim_end, keep_unless}
+-- Laws of a text without the octets at its end that pass a test.
+use Rattle.std.proofs.Common.{◌≡◌, refl, sym, ap, ◌∙◌, Bool, true, false, List, [], ◌∷◌, ◌++◌, ℕ, suc, ◌-◌, ◌<◌, ◌≤◌, length, get_or, take, drop, eqb, nat_eq, arith}
+use mathlib.Core.Bool.{and-true}
+use lib.Dec.{eqb-zero-suc}
+use lib.ListN.{drop_of_length-le}
+use lib.Seq.{take_all, take-suc, drop-cons}
+use Rattle.std.specs.Cmp.Lexicographic.{pointwise}
+use Rattle.rules.specs.Octets.{is, trim_end, keep_unless}
 
 keep_snoc : (b : Bool) (y : ℕ) (l : List ℕ) (x : ℕ) → keep_unless b y (l ++ (x ∷ [])) ≡ y ∷ (l ++ (x ∷ []))
 unfolding keep_unless
@@ -25,24 +24,40 @@ unfolding trim_end keep_unless
 trim-cut p [] x e = rw e
 trim-cut p (y ∷ l) x e = rw (trim-cut p l x e)
 
--- A loop that looks for the end of the text that stands from b on, and stands at e: it starts, it goes on, it is there by the octet before e, or by b.
-pub trim-starts : (p : ℕ → Bool) (s : List ℕ) (b : ℕ) → trim_end p (drop b s) ≡ trim_end p (take (length s - b) (drop b s))
-trim-starts p s b = sym (ap (trim_end p) (take_all (length s - b) (drop b s) (rw length-drop (omega arith))))
+-- ---- the last octet of a text, by the library's test of what a text ends with
 
-module _ (p : ℕ → Bool) (s : List ℕ) (b e : ℕ) (ahead : b < e) (inside : e ≤ length s) where
-  last-octet : take (e - b) (drop b s) ≡ take (e - 1 - b) (drop b s) ++ (get_or s (e - 1) 0 ∷ [])
-  last-octet =
-      let one : e - b ≡ suc (e - 1 - b) = omega arith in
-      let place : b + (e - 1 - b) ≡ e - 1 = omega arith in
-      let inner : e - 1 - b < length (drop b s) = rw length-drop (omega arith) in
-      rw (one, take-suc (drop b s) (e - 1 - b) 0 inner, get_or-drop, place)
+-- where it has one at n, and nothing behind
+module _ (n : ℕ) (l : List ℕ) (h : length l ≡ suc n) where
+  ends-by : (d : ℕ) → pointwise nat_eq (drop n l) (d ∷ []) ≡ eqb (get_or l n 0) d
+  ends-by d =
+      let inside : n < length l = omega arith in
+      let behind : length l ≤ suc n = omega arith in
+      let none : drop (suc n) l ≡ [] = drop_of_length-le l behind in
+      rw (drop-cons l n 0 inside, none) (and-true (eqb (get_or l n 0) d))
 
-  pub trim-step : (t : List ℕ) → p (get_or s (e - 1) 0) ≡ true → t ≡ trim_end p (take (e - b) (drop b s)) → t ≡ trim_end p (take (e - 1 - b) (drop b s))
-  trim-step t y h = h ∙ ap (trim_end p) last-octet ∙ trim-cut p (take (e - 1 - b) (drop b s)) (get_or s (e - 1) 0) y
+  split-last : l ≡ take n l ++ (get_or l n 0 ∷ [])
+  split-last = sym (take_all (suc n) l (omega arith)) ∙ take-suc l n 0 (omega arith)
 
-  pub trim-found : (t : List ℕ) → p (get_or s (e - 1) 0) ≡ false → t ≡ trim_end p (take (e - b) (drop b s)) → take (e - b) (drop b s) ≡ t
-  trim-found t n h = last-octet ∙ sym (h ∙ ap (trim_end p) last-octet ∙ trim-kept p (take (e - 1 - b) (drop b s)) (get_or s (e - 1) 0) n)
+  stripped : (d : ℕ) → pointwise nat_eq (drop n l) (d ∷ []) ≡ true → trim_end (is d) l ≡ trim_end (is d) (take n l)
+  stripped d e = ap (trim_end (is d)) split-last ∙ trim-cut (is d) (take n l) (get_or l n 0) (sym (ends-by d) ∙ e)
 
-pub trim-ended : (p : ℕ → Bool) (s : List ℕ) (b e : ℕ) (t : List ℕ) → e ≤ b → t ≡ trim_end p (take (e - b) (drop b s)) → take (e - b) (drop b s) ≡ t
+  whole : (d : ℕ) → pointwise nat_eq (drop n l) (d ∷ []) ≡ false → l ≡ trim_end (is d) l
+  whole d e =
+      sym (ap (trim_end (is d)) split-last ∙ trim-kept (is d) (take n l) (get_or l n 0) (sym (ends-by d) ∙ e) ∙ sym split-last)
+
+-- of any text; no octet that it is asked to end with is 0
+pub ends-with : (d : ℕ) (l : List ℕ) → pointwise nat_eq (drop (length l - 1) l) (suc d ∷ []) ≡ eqb (get_or l (length l - 1) 0) (suc d)
+ends-with d [] = sym (eqb-zero-suc d)
+ends-with d (x ∷ l) = let e : length (x ∷ l) - 1 ≡ length l = omega arith in rw e (ends-by (length l) (x ∷ l) refl (suc d))
+
+-- a text that ends with the octet d, and one that does not
+pub trim-stripped : (d : ℕ) (l : List ℕ) → pointwise nat_eq (drop (length l - 1) l) (d ∷ []) ≡ true
+    → trim_end (is d) l ≡ trim_end (is d) (take (length l - 1) l)
+trim-stripped d [] h = refl
+trim-stripped d (x ∷ l) h =
+    let e : length (x ∷ l) - 1 ≡ length l = omega arith in rw e (stripped (length l) (x ∷ l) refl d (rw e at h))
+
+pub trim-whole : (d : ℕ) (l : List ℕ) → pointwise nat_eq (drop (length l - 1) l) (d ∷ []) ≡ false → l ≡ trim_end (is d) l
 unfolding trim_end
-trim-ended p s b e t k h = let z : e - b ≡ 0 = omega arith in sym (h ∙ rw z)
+trim-whole d [] h = refl
+trim-whole d (x ∷ l) h = let e : length (x ∷ l) - 1 ≡ length l = omega arith in whole (length l) (x ∷ l) refl d (rw e at h)

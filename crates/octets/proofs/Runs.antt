@@ -2,13 +2,14 @@
 use mathlib.Core.Path.{◌≡◌, refl, sym, ap, ◌∙◌}
 use mathlib.Core.Bool.{Bool, true, false, ◌&&◌, and-true, and_assoc}
 use mathlib.Core.List.{List, [], ◌∷◌, ◌++◌}
-use Prim.Native.Nat.{ℕ, zero, suc, ◌+◌, ◌-◌, ◌<◌, ◌≤◌}
+use Prim.Native.Nat.{ℕ, zero, suc, ◌+◌, ◌-◌, ◌<◌, ◌≤◌, max}
 use native.Mathlib.Numerals.{add-one}
 use native.Mathlib.Omega.{arith}
 use borrow.Author.Tests.{eq-eqb, ne_eqb}
 use lib.Dec.{eqb, eqb-suc-suc, eqb-zero-suc}
 use lib.ListN.{length, get_or, take, drop, length-drop, take-append-drop, drop_of_length-le}
 use lib.Seq.{drop-cons, drop-drop, length-take-le}
+use Rattle.std.specs.List.{list_all}
 use Rattle.rules.specs.Octets.{run, front, after, every, choose}
 use Rattle.octets.proofs.Ranges.{and_both}
 
@@ -47,6 +48,11 @@ pub run_length : (p : ℕ → Bool) (s : List ℕ) → run p s ≤ length s
 unfolding run
 run_length p [] = omega arith
 run_length p (x ∷ s) = run-bound (run p s) (length s) (p x) (run_length p s)
+
+-- or by the end of the text, behind which a search may have begun
+pub run-behind : (p : ℕ → Bool) (s : List ℕ) (from i : ℕ) → length s ≤ i → from + run p (drop from s) ≡ i + run p (drop i s)
+    → (from ≤ length s → i ≤ length s) → max from (length s) ≡ from + run p (drop from s)
+run-behind p s from i h q k = omega (arith, run_end p s i h, run_length p (drop from s), length-drop from s)
 
 every-cons : (r n : ℕ) (b e : Bool) → e ≡ eqb r n → (b && e) ≡ eqb (choose b (suc r) 0) (suc n)
 unfolding choose
@@ -151,3 +157,9 @@ module _ (p : ℕ → Bool) (s : List ℕ) (i : ℕ) where
   pub every-end : length s ≤ i → every p (drop i s) ≡ true
   unfolding every
   every-end h = rw (drop_of_length-le s h)
+
+-- the library's test of every element is the same one
+pub every-all : (p : ℕ → Bool) (s : List ℕ) → every p s ≡ list_all p s
+unfolding every
+every-all p [] = refl
+every-all p (x ∷ s) = ap (λ (b : Bool). p x && b) (every-all p s)

@@ -2,7 +2,7 @@
 use mathlib.Core.Path.{◌≡◌}
 use mathlib.Core.Bool.{true, false}
 use mathlib.Core.List.{List, [], ◌∷◌}
-use mathlib.Core.Option.{none, some}
+use Rattle.std.specs.Prelude.{None, Some}
 use Prim.Native.Nat.{ℕ, ◌+◌, ◌-◌, ◌*◌, ◌<◌, ◌≤◌}
 use native.Mathlib.Numerals.{add-one}
 use native.Mathlib.Omega.{arith}
@@ -28,15 +28,15 @@ value_grows n [] = omega arith
 value_grows n (x ∷ s) = omega (arith, value_grows (n * 10 + (x - 48)) s)
 
 -- a number v to a range: over it once the digits read so far are, under it, in it
-pub between-over : (lo hi v n : ℕ) (s : List ℕ) → v ≡ value_from n s → hi < n → between lo hi v ≡ none
+pub between-over : (lo hi v n : ℕ) (s : List ℕ) → v ≡ value_from n s → hi < n → between lo hi v ≡ None
 unfolding between choose
 between-over lo hi v n s e h = rw (is-above lo hi v (omega (arith, value_grows n s)))
 
-pub between-under : (lo hi v n : ℕ) → v ≡ n → n < lo → between lo hi v ≡ none
+pub between-under : (lo hi v n : ℕ) → v ≡ n → n < lo → between lo hi v ≡ None
 unfolding between choose
 between-under lo hi v n e h = rw (is_below lo hi v (omega arith))
 
-pub between_in : (lo hi v n : ℕ) → v ≡ n → lo ≤ n → n ≤ hi → between lo hi v ≡ some n
+pub between_in : (lo hi v n : ℕ) → v ≡ n → lo ≤ n → n ≤ hi → between lo hi v ≡ Some n
 unfolding between choose
 between_in lo hi v n e h k = rw (e, is_within lo hi n h k)
 
@@ -45,10 +45,10 @@ pub number_digits : (n lo hi : ℕ) (s : List ℕ) → within 1 n (length s) ≡
 unfolding number between
 number_digits n lo hi s l d = rw (l, d)
 
-pub number-length : (n lo hi : ℕ) (s : List ℕ) → within 1 n (length s) ≡ false → number n lo hi s ≡ none
+pub number-length : (n lo hi : ℕ) (s : List ℕ) → within 1 n (length s) ≡ false → number n lo hi s ≡ None
 unfolding number choose
 number-length n lo hi s l = rw l
 
-pub number-not-digits : (n lo hi : ℕ) (s : List ℕ) → within 1 n (length s) ≡ true → every digit s ≡ false → number n lo hi s ≡ none
+pub number-not-digits : (n lo hi : ℕ) (s : List ℕ) → within 1 n (length s) ≡ true → every digit s ≡ false → number n lo hi s ≡ None
 unfolding number choose
 number-not-digits n lo hi s l d = rw (l, d)

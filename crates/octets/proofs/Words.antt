@@ -2,13 +2,15 @@
 use mathlib.Core.Path.{◌≡◌, refl, sym, ap, ◌∙◌}
 use mathlib.Core.Bool.{Bool, true, false, ◌&&◌}
 use mathlib.Core.List.{List, [], ◌∷◌, map}
-use Prim.Native.Nat.{ℕ, suc, ◌+◌, ◌<◌, ◌≤◌}
-use native.Mathlib.Numerals.{add-one}
-use borrow.Author.Tests.{eq-eqb, ne_eqb}
+use Prim.Native.Nat.{ℕ, suc}
+use native.Mathlib.Omega.{arith}
 use lib.Dec.{eqb}
-use lib.ListN.{length, get_or, drop, length-map, drop_of_length-le}
-use lib.Seq.{drop-cons}
-use Rattle.rules.specs.Octets.{equal, capital, alike}
+use lib.ListN.{length, length-map}
+use Rattle.std.specs.Cmp.Lexicographic.{pointwise}
+use Rattle.std.specs.List.{list_all, zip}
+use Rattle.std.specs.Char.{to_ascii_uppercase}
+use Rattle.std.proofs.lemmas.Bool.Decides.{nat_tests}
+use Rattle.rules.specs.Octets.{choose, equal, capital, alike}
 
 -- lists of two lengths differ
 pub equal-lengths : (xs ys : List ℕ) → (length xs ≡ length ys → ⊥) → equal xs ys ≡ false
@@ -26,17 +28,22 @@ pub alike-lengths : (s w : List ℕ) → (length s ≡ length w → ⊥) → ali
 unfolding alike
 alike-lengths s w h = equal-lengths (map capital s) w (λ e. h (sym (length-map s capital) ∙ e))
 
--- the octets at i agree: what follows decides
-pub alike-more : (s w : List ℕ) (i : ℕ) → i < length s → i < length w → capital (get_or s i 0) ≡ get_or w i 0 → alike (drop i s) (drop i w) ≡ alike (drop (i + 1) s) (drop (i + 1) w)
-unfolding alike equal
-alike-more s w i h k e = rw (add-one, drop-cons s i 0 h, drop-cons w i 0 k, eq-eqb _ _ e)
+-- the library's capitals are the same ones, and so is its test of two texts of one length, octet by octet
+upper : (x : ℕ) → to_ascii_uppercase x ≡ capital x
+unfolding capital choose
+upper x = grind (arith, nat_tests)
 
--- they do not
-pub alike-stops : (s w : List ℕ) (i : ℕ) → i < length s → i < length w → (capital (get_or s i 0) ≡ get_or w i 0 → ⊥) → alike (drop i s) (drop i w) ≡ false
+pub alike-zipped : (s w : List ℕ) → length s ≡ length w → list_all (λ (p : ℕ × ℕ). eqb (to_ascii_uppercase p.0) p.1) (zip s w) ≡ alike s w
 unfolding alike equal
-alike-stops s w i h k e = rw (drop-cons s i 0 h, drop-cons w i 0 k, ne_eqb _ _ e)
+alike-zipped [] [] h = refl
+alike-zipped [] (y ∷ w) h = absurd (omega arith)
+alike-zipped (x ∷ s) [] h = absurd (omega arith)
+alike-zipped (x ∷ s) (y ∷ w) h = rw (upper x) (ap (λ (b : Bool). eqb (capital x) y && b) (alike-zipped s w (omega arith)))
 
--- both are at their end
-pub alike_end : (s w : List ℕ) (i : ℕ) → length s ≤ i → length w ≤ i → alike (drop i s) (drop i w) ≡ true
-unfolding alike equal
-alike_end s w i h k = rw (drop_of_length-le s h, drop_of_length-le w k)
+-- the library's comparison of two texts says the same
+pub equal-pointwise : (a b : List ℕ) → pointwise eqb a b ≡ equal a b
+unfolding equal
+equal-pointwise [] [] = refl
+equal-pointwise [] (y ∷ b) = refl
+equal-pointwise (x ∷ a) [] = refl
+equal-pointwise (x ∷ a) (y ∷ b) = ap (λ (e : Bool). eqb x y && e) (equal-pointwise a b)

@@ -4,8 +4,7 @@ use mathlib.Core.List.{List, ◌++◌, append-nil}
 use Prim.Native.Nat.{ℕ, ◌≤◌}
 use native.Mathlib.Nat.{zero-add}
 use native.Mathlib.Omega.{arith}
-use lib.ListN.{length, take, drop, replicate, length-replicate, drop_of_length-le}
-use lib.Seq.{take-append_seam}
+use lib.ListN.{length, drop, replicate, length-replicate, drop_of_length-le}
 use borrow.Author.Tests.{le-leb}
 use Rattle.rules.specs.Octets.{choose}
 use Rattle.output.specs.Buffer.{fits_at, put_at}
@@ -14,9 +13,6 @@ module _ (out text : List ℕ) (room : length text ≤ length out) where
   pub front-put : put_at out 0 text ≡ text ++ drop (length text) out
   unfolding put_at fits_at choose
   front-put = rw (zero-add (length text), le-leb (length text) (length out) room)
-
-  pub front-taken : take (length text) (put_at out 0 text) ≡ text
-  front-taken = rw front-put (take-append_seam text (drop (length text) out))
 
 -- a text as long as the buffer takes the place of all of it
 pub fills : (out text : List ℕ) → length text ≡ length out → put_at out 0 text ≡ text

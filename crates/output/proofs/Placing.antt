@@ -2,13 +2,14 @@
 use mathlib.Core.Path.{◌≡◌, refl, sym, ap, ◌∙◌}
 use mathlib.Core.Bool.{Bool, true, false, not}
 use mathlib.Core.List.{List, [], ◌∷◌, ◌++◌, append_assoc}
-use Prim.Native.Nat.{ℕ, ◌+◌, ◌<◌, ◌≤◌}
+use Prim.Native.Nat.{ℕ, ◌+◌, ◌-◌, ◌<◌, ◌≤◌}
 use native.Mathlib.Nat.{add_assoc, add-zero}
 use native.Mathlib.Numerals.{add-one}
 use native.Mathlib.Omega.{arith}
 use lib.ListN.{length, take, drop, set, get_or, length-append, length-drop, take-append-drop}
 use lib.Seq.{length-take-le, take-add, take_at, drop-append-add, drop-drop, set_split}
 use lib.Dec.{leb}
+use borrow.Rule.Slice.PartMut.{put_mid}
 use borrow.Author.Tests.{le-leb, lt-leb, leb-true, leb-false, not-true, not-false}
 use Rattle.rules.specs.Octets.{choose}
 use Rattle.output.specs.Buffer.{fits_at, put_at, position_after, PutInRoom}
@@ -32,6 +33,12 @@ module _ (out : List ℕ) (at : ℕ) (line : List ℕ) where
 
   length-head : at + length line ≤ length out → length (take at out ++ line) ≡ at + length line
   length-head h = rw (length-append, length-take-le at out (omega arith))
+
+  -- the part of the buffer from `at` on, as long as the line, written over with it
+  pub part-put : at + length line ≤ length out → put_mid at (at + length line - at) out line ≡ put_at out at line
+  part-put h =
+      let size : at + length line - at ≡ length line = omega arith in
+      rw (put-fits h, size, drop-drop (length line) at out)
 
   -- the buffer as what stands before the next position, and what follows
   pub put-split : at + length line ≤ length out → put_at out at line ≡ (take at out ++ line) ++ drop (at + length line) out

@@ -1,13 +1,9 @@
 // Octets and decimal numbers put into a lent buffer, or octets into an array, whole or not at all.
 #![tactic(auto)]
 
-ghost use Rattle.std.specs.Prelude.{◌≡◌, min, ◌+◌, ◌/◌, ◌%◌, ◌≤◌, leb, length, replicate};
+ghost use Rattle.std.specs.Prelude.{◌≡◌, ◌+◌, ◌/◌, ◌%◌, ◌≤◌, leb, length, replicate};
 ghost use Rattle.rules.specs.Octets.{decimal};
-ghost use Rattle.rules.specs.Lines.{most_held};
-ghost use Rattle.rules.specs.Setup.{ipv6_width, ipv4_width};
 ghost use Rattle.output.specs.Buffer.{Put, put_at};
-
-use rules::{HELD, IPV4, IPV6, Line};
 
 // The most octets that are moved at once.
 const BLOCK: usize = 1024;
@@ -16,10 +12,7 @@ const BLOCK: usize = 1024;
 pub fn has_room(length: usize, at: usize, n: usize) -> bool
     ensures { result ≡ leb (at + n) length }
 {
-    if length < at {
-        return false;
-    }
-    n <= length - at
+    at <= length && n <= length - at
 }
 
 // All of `src` from `at` on, or nothing; the next position.
@@ -36,18 +29,11 @@ pub fn put(out: &mut [u8], at: usize, src: &[u8]) -> usize
     }
     let mut done = 0;
     while done < src.len() {
-        let n = block_length(src.len() - done);
+        let n = BLOCK.min(src.len() - done);
         put_block(out, at + done, &src[done..done + n]);
         done += n;
     }
     at + done
-}
-
-// How many of the octets that are left go in one block.
-fn block_length(left: usize) -> usize
-    ensures { result ≡ min left 1024 }
-{
-    if left < BLOCK { left } else { BLOCK }
 }
 
 // Through an array of its own, which lies in neither slice: the compiler then makes one move of the two copies, and
@@ -56,66 +42,32 @@ fn put_block(out: &mut [u8], at: usize, src: &[u8])
     requires { (length src.now ≤ 1024) × (at + length src.now ≤ length out.old) }
     ensures { out.new ≡ put_at out.old at src.now }
 {
+    let n = src.len();
     let mut block = [0u8; BLOCK];
-    copy(&mut block, 0, src);
-    copy(out, at, &block[..src.len()]);
+    block[..n].copy_from_slice(src);
+    out[at..at + n].copy_from_slice(&block[..n]);
 }
 
-fn copy(out: &mut [u8], at: usize, src: &[u8])
-    requires { at + length src.now ≤ length out.old }
-    ensures { out.new ≡ put_at out.old at src.now }
+// Octets as an array: zeros where there are more than it has, and behind fewer.
+pub fn array_from<const N: usize>(octets: &[u8]) -> [u8; N]
+    ensures { result ≡ put_at (replicate N 0) 0 octets.now }
 {
-    let mut i = 0;
-    while i < src.len() {
-        out[at + i] = src[i];
-        i += 1;
-    }
-}
-
-// The octets of an IPv6 address as an array; zeros where there are more than it has, and behind fewer.
-pub fn ipv6_from(octets: &[u8]) -> [u8; IPV6]
-    ensures { result ≡ put_at (replicate ipv6_width 0) 0 octets.now }
-{
-    let mut ipv6 = [0u8; IPV6];
-    put(&mut ipv6, 0, octets);
-    ipv6
-}
-
-// The same of an IPv4 address.
-pub fn ipv4_from(octets: &[u8]) -> [u8; IPV4]
-    ensures { result ≡ put_at (replicate ipv4_width 0) 0 octets.now }
-{
-    let mut ipv4 = [0u8; IPV4];
-    put(&mut ipv4, 0, octets);
-    ipv4
-}
-
-// The same of a line.
-pub fn line_from(octets: &[u8]) -> Line
-    ensures { result ≡ put_at (replicate most_held 0) 0 octets.now }
-{
-    let mut line = [0u8; HELD];
-    put(&mut line, 0, octets);
-    line
+    let mut array = [0u8; N];
+    put(&mut array, 0, octets);
+    array
 }
 
 pub fn decimal_length(n: u16) -> usize
     ensures result { result ≡ length (decimal n) }
     ensures most { result ≤ 5 }
 {
-    if n < 10 {
-        return 1;
+    match n {
+        0..=9 => 1,
+        10..=99 => 2,
+        100..=999 => 3,
+        1000..=9999 => 4,
+        _ => 5,
     }
-    if n < 100 {
-        return 2;
-    }
-    if n < 1000 {
-        return 3;
-    }
-    if n < 10000 {
-        return 4;
-    }
-    5
 }
 
 // The five last digits of the number, without the zeros in front.
@@ -141,7 +93,7 @@ pub fn put_decimal(out: &mut [u8], at: usize, n: u16) -> usize
 fn tenth(n: u16) -> u16
     ensures { result ≡ n / 10 }
 {
-    (n as u32 * 52429 / 524288) as u16
+    (u32::from(n) * 52429 / 524288) as u16
 }
 
 // The last digit of a number: what ten times its tenth leaves of it.

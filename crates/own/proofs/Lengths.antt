@@ -1,5 +1,4 @@
 -- How long the gateway's own answers are.
-use mathlib.Core.Path.{◌≡◌, refl}
 use mathlib.Core.Bool.{Bool, true, false}
 use Prim.Native.Nat.{◌≤◌}
 use native.Mathlib.Omega.{arith}
@@ -8,12 +7,6 @@ use Rattle.rules.specs.Replies.{state_line, answer_line}
 use Rattle.rules.specs.declared.OwnAnswer.{OwnAnswer}
 use Rattle.rules.specs.declared.OwnAnswer.TheVariants.{ProtocolNotSupported, ParameterNotImplemented, State}
 use Rattle.rules.specs.Answers.{longest_answer}
-
--- only EPSVEPRT is longer
-pub state-short : (eprt : Bool) → length (state_line false eprt) ≡ 10
-unfolding state_line
-state-short false = refl
-state-short true = refl
 
 state-most : (epsv eprt : Bool) → length (state_line epsv eprt) ≤ longest_answer
 unfolding state_line

@@ -11,39 +11,33 @@ use rules::{OwnAnswer, Switches};
 pub fn answer_length(a: OwnAnswer) -> usize
     ensures { result ≡ length (answer_line a) }
 {
-    match a {
-        OwnAnswer::ProtocolNotSupported => 36,
-        OwnAnswer::ParameterNotImplemented => 48,
-        OwnAnswer::State(on) => { if on.epsv && on.eprt { 14 } else { 10 } }
-    }
+    text(a).len()
 }
 
 pub fn put_answer(out: &mut [u8], at: usize, a: OwnAnswer) -> usize
     ensures { Put out.old at (answer_line a) result out.new }
 {
+    put(out, at, text(a))
+}
+
+fn text(a: OwnAnswer) -> &'static [u8]
+    ensures { result.now ≡ answer_line a }
+{
     match a {
-        OwnAnswer::ProtocolNotSupported => put(out, at, b"522 Network protocol not supported\r\n"),
-        OwnAnswer::ParameterNotImplemented => put(
-            out,
-            at,
-            b"504 Command not implemented for that parameter\r\n",
-        ),
-        OwnAnswer::State(on) => put_state(out, at, on),
+        OwnAnswer::ProtocolNotSupported => b"522 Network protocol not supported\r\n",
+        OwnAnswer::ParameterNotImplemented => b"504 Command not implemented for that parameter\r\n",
+        OwnAnswer::State(on) => state(on),
     }
 }
 
 // The 216 line, by the switches that are on.
-fn put_state(out: &mut [u8], at: usize, on: Switches) -> usize
-    ensures { Put out.old at (state_line on.epsv on.eprt) result out.new }
+fn state(on: Switches) -> &'static [u8]
+    ensures { result.now ≡ state_line on.epsv on.eprt }
 {
-    if on.epsv {
-        if on.eprt {
-            return put(out, at, b"216 EPSVEPRT\r\n");
-        }
-        return put(out, at, b"216 EPSV\r\n");
+    match (on.epsv, on.eprt) {
+        (false, false) => b"216 NONE\r\n",
+        (true, false) => b"216 EPSV\r\n",
+        (false, true) => b"216 EPRT\r\n",
+        (true, true) => b"216 EPSVEPRT\r\n",
     }
-    if on.eprt {
-        return put(out, at, b"216 EPRT\r\n");
-    }
-    put(out, at, b"216 NONE\r\n")
 }

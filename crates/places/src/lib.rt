@@ -3,7 +3,7 @@
 
 ghost use Rattle.std.specs.Prelude.{◌≡◌, true, ◌+◌, ◌<◌, ltb, take};
 ghost use Rattle.rules.specs.Lines.{judged};
-ghost use Rattle.places.specs.Places.{at, is_holding, is_flowing, is_passing, is_in_lines, is_ended};
+ghost use Rattle.places.specs.Places.{is_holding, is_flowing, is_passing, is_in_lines, is_ended};
 ghost use Rattle.places.specs.Places.{direction_from_now};
 
 use rules::HELD;
@@ -30,10 +30,7 @@ pub struct Direction {
 pub fn first_octets(line: &[u8], n: usize) -> &[u8]
     ensures { result.now ≡ take n line.now }
 {
-    if n < line.len() {
-        return &line[..n];
-    }
-    line
+    &line[..n.min(line.len())]
 }
 
 // Whether another octet that is no LF is held too, as its line may still be judged whole. `fits` lets callers count it.
@@ -48,62 +45,35 @@ pub fn is_held(held: usize) -> bool
 pub fn is_holding(direction: Direction) -> bool
     ensures { result ≡ is_holding direction.place }
 {
-    let place = direction.place;
-    match place {
-        Place::Holding => true,
-        Place::Flowing => false,
-        Place::Passing => false,
-        Place::Ended => false,
-    }
+    matches!(direction.place, Place::Holding)
 }
 
 // Its long line flows.
 pub fn is_flowing(direction: Direction) -> bool
     ensures { result ≡ is_flowing direction.place }
 {
-    let place = direction.place;
-    match place {
-        Place::Flowing => true,
-        Place::Holding => false,
-        Place::Passing => false,
-        Place::Ended => false,
-    }
+    matches!(direction.place, Place::Flowing)
 }
 
 // Its octets pass at once.
 pub fn is_passing(direction: Direction) -> bool
     ensures { result ≡ is_passing direction.place }
 {
-    let place = direction.place;
-    match place {
-        Place::Passing => true,
-        Place::Holding => false,
-        Place::Flowing => false,
-        Place::Ended => false,
-    }
+    matches!(direction.place, Place::Passing)
 }
 
 // Its octets are read as lines, with the Telnet layer below them: they do not pass at once, and it has not ended.
 pub fn in_lines(direction: Direction) -> bool
     ensures { result ≡ is_in_lines direction.place }
 {
-    if is_passing(direction) {
-        return false;
-    }
-    !has_ended(direction)
+    matches!(direction.place, Place::Holding | Place::Flowing)
 }
 
 // It has ended.
 pub fn has_ended(direction: Direction) -> bool
     ensures { result ≡ is_ended direction.place }
 {
-    let place = direction.place;
-    match place {
-        Place::Ended => true,
-        Place::Holding => false,
-        Place::Flowing => false,
-        Place::Passing => false,
-    }
+    matches!(direction.place, Place::Ended)
 }
 
 // The direction, field by field. Copied whole it drags its padding along, in wide loads that wait for narrow stores.
@@ -121,20 +91,11 @@ pub fn copied(direction: Direction) -> Direction
 pub fn passes_from_now(direction: Direction) -> Direction
     ensures { result ≡ direction_from_now direction direction.place }
 {
-    let place = direction.place;
-    match place {
+    match direction.place {
         Place::Ended => direction,
-        Place::Holding => passing(),
-        Place::Flowing => passing(),
-        Place::Passing => passing(),
-    }
-}
-
-fn passing() -> Direction
-    ensures { result ≡ at Place.Passing 0 }
-{
-    Direction {
-        place: Place::Passing,
-        held: 0,
+        _ => Direction {
+            place: Place::Passing,
+            held: 0,
+        },
     }
 }

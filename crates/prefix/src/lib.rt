@@ -9,7 +9,7 @@ ghost use Rattle.prefix.specs.Prefix.{prefix_lengths, is_one_of, prefix_of, rese
 ghost use Rattle.prefix.specs.Prefix.{without_reserved, with_reserved, embedded, extracted};
 ghost use Rattle.prefix.specs.Prefix.{prefix_number, prefix_answer, embedding, extracting};
 
-use output::{ipv4_from, put};
+use output::{array_from, put};
 use rules::{IPV4, IPV6};
 
 mod slices;
@@ -30,14 +30,14 @@ pub enum PrefixAnswer {
     ReservedBits,
 }
 
-// An IPv4 address put behind a prefix; zeros where that is refused.
+// An IPv4 address put behind a prefix; zeros where that is refused, as `embedding` promises, so this is no `Result`.
 #[derive(Clone, Copy)]
 pub struct Embedded {
     pub answer: PrefixAnswer,
     pub ipv6: [u8; IPV6],
 }
 
-// The IPv4 address taken out of an IPv6 address; zeros where that is refused.
+// The IPv4 address taken out of an IPv6 address; zeros where that is refused, by `extracting`.
 #[derive(Clone, Copy)]
 pub struct Extracted {
     pub answer: PrefixAnswer,
@@ -80,13 +80,15 @@ pub fn extract(ipv6: [u8; IPV6], length: u64) -> Extracted
 }
 
 // The number of an answer, for hosts and programs, which tell numbers.
-pub fn number_of(answer: PrefixAnswer) -> u8
-    ensures { result ≡ prefix_number answer }
-{
-    match answer {
-        PrefixAnswer::Done => 0,
-        PrefixAnswer::BadLength => 9,
-        PrefixAnswer::ReservedBits => 10,
+impl From<PrefixAnswer> for u8 {
+    ghost from_gives = { λ answer number. number ≡ prefix_number answer };
+
+    fn from(answer: PrefixAnswer) -> u8 {
+        match answer {
+            PrefixAnswer::Done => 0,
+            PrefixAnswer::BadLength => 9,
+            PrefixAnswer::ReservedBits => 10,
+        }
     }
 }
 
@@ -95,8 +97,7 @@ pub fn number_of(answer: PrefixAnswer) -> u8
 fn answer_for(length: u64, bits: bool) -> PrefixAnswer
     ensures { result ≡ prefix_answer length bits }
 {
-    let listed = is_prefix_length(length);
-    if !listed {
+    if !is_prefix_length(length) {
         return PrefixAnswer::BadLength;
     }
     if bits {
@@ -108,10 +109,7 @@ fn answer_for(length: u64, bits: bool) -> PrefixAnswer
 fn is_prefix_length(length: u64) -> bool
     ensures { result ≡ is_one_of prefix_lengths length }
 {
-    match length {
-        32 | 40 | 48 | 56 | 64 | 96 => true,
-        _ => false,
-    }
+    matches!(length, 32 | 40 | 48 | 56 | 64 | 96)
 }
 
 fn has_reserved_bits(ipv6: [u8; IPV6]) -> bool
@@ -189,5 +187,5 @@ fn ipv4_in(ipv6: [u8; IPV6], length: u64) -> [u8; IPV4]
 {
     let parts = without_reserved(ipv6);
     let at = ipv4_at(length);
-    ipv4_from(&parts[at..at + IPV4])
+    array_from(&parts[at..at + IPV4])
 }

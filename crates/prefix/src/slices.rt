@@ -4,7 +4,7 @@ ghost use Rattle.std.specs.Prelude.{◌≡◌};
 ghost use Rattle.prefix.specs.Slices.{are_widths, embed_answer, embed_after, extract_answer, extract_after};
 
 use crate::{PrefixAnswer, embed, extract};
-use output::{ipv4_from, ipv6_from, put};
+use output::{array_from, put};
 use rules::{IPV4, IPV6};
 
 // Puts the IPv4 address behind the prefix, into `ipv6`.
@@ -18,7 +18,7 @@ pub fn embed_into(prefix: &[u8], length: u64, ipv4: &[u8], ipv6: &mut [u8]) -> P
     if !are_widths(ipv6.len(), ipv4.len()) {
         return PrefixAnswer::BadLength;
     }
-    let made = embed(ipv6_from(prefix), length, ipv4_from(ipv4));
+    let made = embed(array_from(prefix), length, array_from(ipv4));
     let answer = made.answer;
     let octets = made.ipv6;
     put(ipv6, 0, &octets);
@@ -33,7 +33,7 @@ pub fn extract_into(ipv6: &[u8], length: u64, ipv4: &mut [u8]) -> PrefixAnswer
     if !are_widths(ipv6.len(), ipv4.len()) {
         return PrefixAnswer::BadLength;
     }
-    let taken = extract(ipv6_from(ipv6), length);
+    let taken = extract(array_from(ipv6), length);
     let answer = taken.answer;
     let octets = taken.ipv4;
     put(ipv4, 0, &octets);
@@ -41,11 +41,9 @@ pub fn extract_into(ipv6: &[u8], length: u64, ipv4: &mut [u8]) -> PrefixAnswer
 }
 
 // Whether slices of these lengths are for an IPv6 and an IPv4 address.
+#[tactic(auto, unfolding(crate::specs::Slices::are_widths))]
 fn are_widths(ipv6: usize, ipv4: usize) -> bool
     ensures { result ≡ are_widths ipv6 ipv4 }
 {
-    if ipv6 != IPV6 {
-        return false;
-    }
-    ipv4 == IPV4
+    ipv6 == IPV6 && ipv4 == IPV4
 }

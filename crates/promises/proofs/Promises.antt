@@ -1,4 +1,5 @@
 -- From the session's contracts to what demand 3 assumes of a gateway: a fresh record, the promise of a call, and the offset.
+use Rattle.std.specs.Prelude.{Some}
 use mathlib.Core.Path.{◌≡◌, refl, sym, ap, ◌∙◌}
 use mathlib.Core.List.{List}
 use Prim.Native.Nat.{ℕ, zero, suc, ◌<◌}
@@ -10,7 +11,6 @@ use Rattle.rules.specs.declared.Setup.{Setup}
 use Rattle.records.specs.declared.Session.{Session}
 use Rattle.setups.specs.declared.Prepared.{Prepared}
 use Rattle.session.specs.declared.Called.{Called}
-use Rattle.counts.specs.declared.DirectionOffset.{DirectionOffset}
 use Rattle.setups.specs.Setups.{prepared}
 use Rattle.counts.specs.Counts.{offset}
 use Rattle.session.specs.Calls.{buffer_after}
@@ -35,7 +35,7 @@ call-promised r c t s k e p q =
       pieces = refl;
     })
 
-pub offset-promised : (r : Session) (d : ℕ) → d < 2 → offset r d ≡ DirectionOffset.Is (gateway.offset r (side_of d))
+pub offset-promised : (r : Session) (d : ℕ) → d < 2 → offset r d ≡ Some (gateway.offset r (side_of d))
 unfolding offset
 offset-promised r zero h = refl
 offset-promised r (suc zero) h = refl

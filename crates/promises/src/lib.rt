@@ -10,7 +10,6 @@ ghost use Rattle.setups.specs.Setups.{prepared};
 ghost use Rattle.counts.specs.Counts.{offset as offset_in};
 ghost use Rattle.history.specs.Gateway.{gateway, returned};
 
-use counts::DirectionOffset;
 use records::Session;
 use rules::{Answer, Setup};
 use session::Called;
@@ -55,9 +54,9 @@ pub fn promised_end(
 }
 
 // The offset of a direction that there is, is the gateway's.
-pub fn promised_offset(session: Session, direction: u8) -> DirectionOffset
+pub fn promised_offset(session: Session, direction: u8) -> Option<u32>
     ensures result { result ≡ offset_in session direction }
-    ensures offset { direction < 2 → result ≡ DirectionOffset.Is (gateway.offset session (side_of direction)) }
+    ensures offset { direction < 2 → result ≡ Some (gateway.offset session (side_of direction)) }
 {
     counts::offset(session, direction)
 }

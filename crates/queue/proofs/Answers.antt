@@ -1,7 +1,7 @@
 -- The queue from a number on: what stands there, and what one own answer at its head adds to the answers behind it.
 use mathlib.Core.Path.{◌≡◌, refl, ap, ◌∙◌}
 use mathlib.Core.List.{List, [], ◌∷◌, ◌++◌, map}
-use Prim.Native.Nat.{ℕ, suc, ◌+◌, ◌≤◌, ◌<◌}
+use Prim.Native.Nat.{ℕ, zero, suc, ◌+◌, ◌≤◌, ◌<◌}
 use native.Mathlib.Omega.{arith}
 use lib.ListN.{length, take, drop, get_or, length-append, length-map, length-take, drop_of_length-le, get_or-map}
 use lib.Seq.{drop-cons, drop-drop, get_or-take}
@@ -36,6 +36,11 @@ module _ (kinds : List ℕ) (i owed : ℕ) where
 pub length-queue : (kinds : List ℕ) (owed : ℕ) → length (queue_of kinds owed) ≤ owed
 unfolding queue_of
 length-queue kinds owed = simp (length-map, length-take) (omega arith)
+
+-- nor more than there is room for
+pub queue-most : (kinds : List ℕ) (owed : ℕ) → length (queue_of kinds owed) ≤ length kinds
+unfolding queue_of
+queue-most kinds owed = simp (length-map, length-take) (omega arith)
 
 pub answers-most : (ks : List Kind) → answers_at_head ks ≤ length ks
 unfolding answers_at_head
@@ -107,3 +112,11 @@ first-answer a (Kind.Auth ∷ ks) e f = let z : ◌≡◌ {A = ℕ} 0 1 = cc in 
 pub goes_on : (ks : List Kind) (i : ℕ) (a : OwnAnswer) {n : Next} → n ≡ next_first (drop i ks) → n ≡ Next.Answer a
     → OneAnswer a (drop i ks) (drop (i + 1) ks)
 goes_on ks i a e f = rw drop-drop at (first-answer a (drop i ks) e f)
+
+-- where an own answer comes first from number i on, number i is one of the queue
+pub stands : (ks : List Kind) (i : ℕ) {n : Next} {a : OwnAnswer} → n ≡ next_first (drop i ks) → n ≡ Next.Answer a → i < length ks
+unfolding next_first
+stands [] zero e f = cc
+stands [] (suc i) e f = cc
+stands (k ∷ ks) zero e f = omega arith
+stands (k ∷ ks) (suc i) e f = let h = stands ks i e f in omega arith

@@ -1,4 +1,5 @@
 -- The array of kinds with its count: what is put in and what leaves keeps every kind owed a listed one.
+use Rattle.std.specs.Prelude.{Some}
 use mathlib.Core.Path.{◌≡◌, refl, ap, ◌∙◌}
 use mathlib.Core.Bool.{Bool, true, false}
 use mathlib.Core.List.{List, [], ◌∷◌, ◌++◌, map}
@@ -12,7 +13,6 @@ use Rattle.rules.specs.Answers.{most_owed}
 use Rattle.rules.specs.declared.OwnAnswer.{OwnAnswer}
 use Rattle.rules.specs.declared.Kind.{Kind}
 use Rattle.octets.proofs.Runs.{every_drop, every_append}
-use Rattle.queue.specs.declared.Owes.{Owes}
 use Rattle.queue.specs.Kinds.{pushed, state_code, answer_code, code_of, is_listed, kind_of, queue_of, shifted}
 
 -- ---- every kind has a listed number
@@ -42,11 +42,11 @@ pub record Listed (kinds : List ℕ) (owed : ℕ) : Type 0 where
 
 -- a kind is put behind the last one
 pub pushed_front : (kinds : List ℕ) (owed : ℕ) (k : Kind) → owed < length kinds
-    → take (owed + 1) (pushed kinds owed (Owes.One k)) ≡ take owed kinds ++ (code_of k ∷ [])
+    → take (owed + 1) (pushed kinds owed (Some k)) ≡ take owed kinds ++ (code_of k ∷ [])
 unfolding pushed
 pushed_front kinds owed k h = rw (add-one owed) (take-suc-set kinds owed (code_of k) h)
 
-pub listed-push : {kinds : List ℕ} {owed : ℕ} → Listed kinds owed → (k : Kind) → owed < most_owed → Listed (pushed kinds owed (Owes.One k)) (owed + 1)
+pub listed-push : {kinds : List ℕ} {owed : ℕ} → Listed kinds owed → (k : Kind) → owed < most_owed → Listed (pushed kinds owed (Some k)) (owed + 1)
 unfolding pushed every
 listed-push {kinds} {owed} q k h =
     record {

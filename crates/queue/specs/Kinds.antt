@@ -1,9 +1,9 @@
 -- The owed kinds as numbers of the record.
+use Rattle.std.specs.Prelude.{Option, None, Some}
 use Rattle.std.specs.Prelude.{Bool, true, false, List, [], ◌∷◌, ◌++◌, map, ℕ, suc, ◌-◌, eqb, leb, ltb, length, take, drop, set, get_or}
 use Rattle.rules.specs.Octets.{choose}
 use Rattle.rules.specs.declared.OwnAnswer.{OwnAnswer}
 use Rattle.rules.specs.declared.Kind.{Kind}
-use Rattle.queue.specs.declared.Owes.{Owes}
 
 -- the numbers of "four of 216": by whether EPSV is on, and whether EPRT is
 unfoldable pub state_code : Bool → Bool → ℕ
@@ -58,8 +58,8 @@ unfoldable pub queue_of : List ℕ → ℕ → List Kind
 queue_of kinds owed = map kind_of (take owed kinds)
 
 -- the first kind owed, if one is
-unfoldable pub head_of : List ℕ → ℕ → Owes
-head_of kinds owed = choose (eqb owed 0) Owes.Nothing (Owes.One (kind_of (get_or kinds 0 0)))
+unfoldable pub head_of : List ℕ → ℕ → Option Kind
+head_of kinds owed = choose (eqb owed 0) None (Some (kind_of (get_or kinds 0 0)))
 
 -- how many of the gateway's own answers stand at the head of a queue
 unfoldable pub answers_at_head : List Kind → ℕ
@@ -70,9 +70,9 @@ answers_at_head (Kind.Own a ∷ ks) = suc (answers_at_head ks)
 answers_at_head (Kind.Auth ∷ ks) = 0
 
 -- a kind is put behind the last one owed
-unfoldable pub pushed : List ℕ → ℕ → Owes → List ℕ
-pushed kinds owed Owes.Nothing = kinds
-pushed kinds owed (Owes.One k) = set kinds owed (code_of k)
+unfoldable pub pushed : List ℕ → ℕ → Option Kind → List ℕ
+pushed kinds owed None = kinds
+pushed kinds owed (Some k) = set kinds owed (code_of k)
 
 -- the numbers moved n positions to the front; those behind the last one owed stay
 unfoldable pub shifted : List ℕ → ℕ → ℕ → List ℕ

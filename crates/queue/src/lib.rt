@@ -19,23 +19,7 @@ const AUTH: u8 = 8;
 
 pub const LAST: u8 = AUTH;
 
-// A kind owed, or none.
-#[derive(Clone, Copy)]
-pub enum Owes {
-    Nothing,
-    One(Kind),
-}
-
-// The kinds of a record, from their octets; zeros where there are more than it has, and behind fewer.
-pub fn kinds_from(octets: &[u8]) -> Kinds
-    ensures { result ≡ put_at (replicate most_owed 0) 0 octets.now }
-{
-    let mut kinds = [0u8; OWED];
-    put(&mut kinds, 0, octets);
-    kinds
-}
-
-// The number of a kind in the record.
+// The number of a kind in the record. The numbers are the queue's, and the type is not: so there is no `From` for them.
 fn code_of(kind: Kind) -> u8
     ensures { result ≡ code_of kind }
 {
@@ -111,13 +95,13 @@ enum Next {
 }
 
 // The first kind owed.
-pub fn first_owed(kinds: Kinds, owed: usize) -> Owes
+pub fn first_owed(kinds: Kinds, owed: usize) -> Option<Kind>
     ensures { result ≡ head_of kinds owed }
 {
     if owed == 0 {
-        return Owes::Nothing;
+        return None;
     }
-    Owes::One(kind_of(kinds[0]))
+    Some(kind_of(kinds[0]))
 }
 
 // What a kind is, where it comes next.
@@ -148,11 +132,7 @@ fn next_at(kinds: Kinds, i: usize, owed: usize) -> Next
 fn is_auth(next: Next) -> bool
     ensures { result ≡ next_is_auth next }
 {
-    match next {
-        Next::Auth => true,
-        Next::Answer(_) => false,
-        Next::Other => false,
-    }
+    matches!(next, Next::Auth)
 }
 
 // The own answers at the head of what is owed from number `from` on.
@@ -163,23 +143,15 @@ fn due(kinds: Kinds, from: usize, owed: usize) -> AnswersDue
     ensures most { result.length ≤ most_answers }
 {
     let mut until = from;
-    let mut octets = 0;
-    while until < OWED {
-        let next = next_at(kinds, until, owed);
-        let Next::Answer(answer) = next else {
-            return AnswersDue {
-                until,
-                length: octets,
-                auth: is_auth(next),
-            };
-        };
-        octets += answer_length(answer);
+    let mut length = 0;
+    while let Next::Answer(answer) = next_at(kinds, until, owed) {
+        length += answer_length(answer);
         until += 1;
     }
     AnswersDue {
         until,
-        length: octets,
-        auth: false,
+        length,
+        auth: is_auth(next_at(kinds, until, owed)),
     }
 }
 
@@ -197,11 +169,7 @@ pub fn put_answers(out: &mut [u8], at: usize, kinds: Kinds, from: usize, owed: u
     }
     let mut place = at;
     let mut i = from;
-    while i < OWED {
-        let next = next_at(kinds, i, owed);
-        let Next::Answer(answer) = next else {
-            return place;
-        };
+    while let Next::Answer(answer) = next_at(kinds, i, owed) {
         place = put_answer(out, place, answer);
         i += 1;
     }
@@ -209,10 +177,10 @@ pub fn put_answers(out: &mut [u8], at: usize, kinds: Kinds, from: usize, owed: u
 }
 
 // A kind is put behind the last one owed.
-pub fn push(kinds: Kinds, owed: usize, owes: Owes) -> Kinds
+pub fn push(kinds: Kinds, owed: usize, owes: Option<Kind>) -> Kinds
     ensures { result ≡ pushed kinds owed owes }
 {
-    let Owes::One(kind) = owes else {
+    let Some(kind) = owes else {
         return kinds;
     };
     if OWED <= owed {
@@ -268,15 +236,9 @@ pub fn planned(kinds: Kinds, from: usize, owed: usize, blocked: bool) -> Plan
 pub fn shift(kinds: &mut [u8], by: usize, owed: usize)
     ensures { kinds.new ≡ shifted_in kinds.old by owed }
 {
-    if kinds.len() < owed {
+    // Mostly nothing is left to move.
+    if kinds.len() < owed || owed <= by || by == 0 {
         return;
     }
-    if by == 0 {
-        return;
-    }
-    let mut i = by;
-    while i < owed {
-        kinds[i - by] = kinds[i];
-        i += 1;
-    }
+    kinds.copy_within(by..owed, 0);
 }

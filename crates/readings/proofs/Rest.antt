@@ -2,7 +2,7 @@
 use mathlib.Core.Path.{◌≡◌, refl, sym, ap, ◌∙◌}
 use mathlib.Core.Bool.{Bool}
 use mathlib.Core.List.{List, [], ◌∷◌, ◌++◌, append-nil, append_assoc}
-use mathlib.Core.Option.{Option, none, some}
+use Rattle.std.specs.Prelude.{Option, None, Some}
 use Prim.Native.Nat.{ℕ, zero, suc, ◌-◌}
 use native.Mathlib.Omega.{arith}
 use lib.ListN.{length, take, length-append}
@@ -117,23 +117,23 @@ module _ (rules : LineRules) where
     line-speaks : (o : Option ℕ) → data_of (telnet_octet t x).does ≡ o
         → Speaks c t x (telnet_octet t x).telnet o (client_read rules c (telnet_octet t x).does o)
     unfolding rest after_data spoken_part client_read
-    line-speaks none q xs e =
-        let n = count-some c (data_octets (telnet_octet t x).telnet xs) in rw (data-cons none q xs, n.1, up_to-line none q n.0)
-    line-speaks (some y) q xs e =
+    line-speaks None q xs e =
+        let n = count-some c (data_octets (telnet_octet t x).telnet xs) in rw (data-cons None q xs, n.1, up_to-line None q n.0)
+    line-speaks (Some y) q xs e =
         let d : List ℕ = data_octets (telnet_octet t x).telnet xs in
         let n : ℕ = auth_from rules (client_octet rules st (in_line l) y).state d in
-        rw (data-cons (some y) q xs, count-cons y d, up_to-line (some y) q n, octets-cons y (take n d) e)
+        rw (data-cons (Some y) q xs, count-cons y d, up_to-line (Some y) q n, octets-cons y (take n d) e)
         (append_assoc (client_gives rules st (in_line l) y) _ _)
 
     line-roles : (o : Option ℕ) → data_of (telnet_octet t x).does ≡ o
         → Roles c t x (telnet_octet t x).telnet o (client_read rules c (telnet_octet t x).does o)
     unfolding roles_at roles_from text_of client_read
-    line-roles none q is =
+    line-roles None q is =
         let n = count-some c (data_octets (telnet_octet t x).telnet (text_of client is)) in
-        rw (data-cons none q (text_of client is), n.1, up_to-line none q n.0, q)
-    line-roles (some y) q is =
+        rw (data-cons None q (text_of client is), n.1, up_to-line None q n.0, q)
+    line-roles (Some y) q is =
         let d : List ℕ = data_octets (telnet_octet t x).telnet (text_of client is) in
-        rw (data-cons (some y) q (text_of client is), count-cons y d, up_to-line (some y) q _, q)
+        rw (data-cons (Some y) q (text_of client is), count-cons y d, up_to-line (Some y) q _, q)
 
   module _ (st : rules.LineState) (t : Telnet) where
     count-passing : (d : List ℕ) → auth_from rules (standing rules st passing) d ≡ 0
@@ -169,8 +169,8 @@ module _ (rules : LineRules) where
   -- the client has not ended then
   ok-by : (c : Client rules) → Ok rules c.place → (d : Does) (o : Option ℕ) → Ok rules (client_read rules c d o).state.place
   unfolding client_read
-  ok-by c k d none = k
-  ok-by c k d (some y) = ok-place rules c.line_state c.place y k
+  ok-by c k d None = k
+  ok-by c k d (Some y) = ok-place rules c.line_state c.place y k
 
   pub ok-turn : (c : Client rules) → Ok rules c.place → (r : LayerStep) → Ok rules (turn_of c r).state.place
   ok-turn c k r = ok-by c k r.does (data_of r.does)

@@ -1,7 +1,7 @@
 -- What refuses a call, test by test, and what holds of a record that is not refused.
 use mathlib.Core.Path.{◌≡◌, refl, sym, ap, ◌∙◌}
 use mathlib.Core.Bool.{Bool, true, false, ◌&&◌, not, false≢true}
-use mathlib.Core.Option.{Option, none, some}
+use Rattle.std.specs.Prelude.{Option, None, Some}
 use Prim.Native.Nat.{ℕ, ◌<◌, ◌≤◌}
 use native.Mathlib.Omega.{arith}
 use lib.Dec.{leb}
@@ -14,22 +14,21 @@ use Rattle.octets.proofs.Ranges.{and_both}
 use Rattle.places.specs.declared.Place.{Place}
 use Rattle.places.specs.declared.Direction.{Direction}
 use Rattle.records.specs.declared.Session.{Session}
-use Rattle.records.specs.declared.Refusal.{Refusal}
 use Rattle.places.specs.Places.{is_holding}
-use Rattle.records.specs.Sound.{sound_direction, sound, refusal_of, refusal_by}
+use Rattle.records.specs.Sound.{sound_direction, sound, refusal_of}
 
 -- "Order: 3, 4, 6": each case knows that those before it are not so
 module _ (P : Option Answer → Type 0) where
-  pub refusal-cases : (d : ℕ) (sound ended : Bool) → (leb 2 d ≡ true → P (some Answer.UnknownDirection))
-      → (leb 2 d ≡ false → sound ≡ false → P (some Answer.BadRecord))
-      → (leb 2 d ≡ false → sound ≡ true → ended ≡ true → P (some Answer.DirectionEnded))
-      → (leb 2 d ≡ false → sound ≡ true → ended ≡ false → P none) → P (refusal d sound ended)
+  pub refusal-cases : (d : ℕ) (sound ended : Bool) → (leb 2 d ≡ true → P (Some Answer.UnknownDirection))
+      → (leb 2 d ≡ false → sound ≡ false → P (Some Answer.BadRecord))
+      → (leb 2 d ≡ false → sound ≡ true → ended ≡ true → P (Some Answer.DirectionEnded))
+      → (leb 2 d ≡ false → sound ≡ true → ended ≡ false → P None) → P (refusal d sound ended)
   unfolding refusal choose
   refusal-cases d sound ended three four six free = by_tests (leb 2 d) sound ended three four six free
     where
-      by_tests : (t s e : Bool) → (t ≡ true → P (some Answer.UnknownDirection)) → (t ≡ false → s ≡ false → P (some Answer.BadRecord))
-          → (t ≡ false → s ≡ true → e ≡ true → P (some Answer.DirectionEnded)) → (t ≡ false → s ≡ true → e ≡ false → P none)
-          → P (choose t (some Answer.UnknownDirection) (choose (not s) (some Answer.BadRecord) (choose e (some Answer.DirectionEnded) none)))
+      by_tests : (t s e : Bool) → (t ≡ true → P (Some Answer.UnknownDirection)) → (t ≡ false → s ≡ false → P (Some Answer.BadRecord))
+          → (t ≡ false → s ≡ true → e ≡ true → P (Some Answer.DirectionEnded)) → (t ≡ false → s ≡ true → e ≡ false → P None)
+          → P (choose t (Some Answer.UnknownDirection) (choose (not s) (Some Answer.BadRecord) (choose e (Some Answer.DirectionEnded) None)))
       by_tests true s e p q r u = p refl
       by_tests false false e p q r u = q refl refl
       by_tests false true true p q r u = r refl refl refl
@@ -85,37 +84,26 @@ module _ (live : Bool) (owed : ℕ) (k c s : Bool) where
 
 -- the three refusals, in order
 module _ (d : ℕ) (s e : Bool) where
-  pub unknown : 2 ≤ d → Refusal.By Answer.UnknownDirection ≡ refusal_by (refusal d s e)
-  unfolding refusal_by refusal choose
+  pub unknown : 2 ≤ d → Some Answer.UnknownDirection ≡ refusal d s e
+  unfolding refusal choose
   unknown h = rw (le-leb 2 d h)
 
-  pub unsound : d < 2 → {s' : Bool} → s' ≡ s → not s' ≡ true → Refusal.By Answer.BadRecord ≡ refusal_by (refusal d s e)
-  unfolding refusal_by refusal choose
+  pub unsound : d < 2 → {s' : Bool} → s' ≡ s → not s' ≡ true → Some Answer.BadRecord ≡ refusal d s e
+  unfolding refusal choose
   unsound h p f = rw (lt-leb 2 d h, sym p ∙ not-true _ f)
 
-  pub over : d < 2 → {s' : Bool} → s' ≡ s → not s' ≡ false → e ≡ true → Refusal.By Answer.DirectionEnded ≡ refusal_by (refusal d s e)
-  unfolding refusal_by refusal choose
+  pub over : d < 2 → {s' : Bool} → s' ≡ s → not s' ≡ false → e ≡ true → Some Answer.DirectionEnded ≡ refusal d s e
+  unfolding refusal choose
   over h p f g = rw (lt-leb 2 d h, sym p ∙ not-false _ f, g)
 
-  pub taken : d < 2 → {s' : Bool} → s' ≡ s → not s' ≡ false → e ≡ false → Refusal.Nothing ≡ refusal_by (refusal d s e)
-  unfolding refusal_by refusal choose
+  pub taken : d < 2 → {s' : Bool} → s' ≡ s → not s' ≡ false → e ≡ false → None ≡ refusal d s e
+  unfolding refusal choose
   taken h p f g = rw (lt-leb 2 d h, sym p ∙ not-false _ f, g)
 
--- the answer's two cases, read back
-pub by-nothing : (o : Option Answer) → refusal_by o ≡ Refusal.Nothing → o ≡ none
-unfolding refusal_by
-by-nothing none e = refl
-by-nothing (some a) e = cc
-
 -- what is no answer refuses nothing
-pub otherwise : (r : Refusal) → ((a : Answer) → r ≡ Refusal.By a → ⊥) → r ≡ Refusal.Nothing
-otherwise (Refusal.By a) h = absurd (h a refl)
-otherwise Refusal.Nothing h = refl
-
-pub by_answer : (o : Option Answer) (a : Answer) → refusal_by o ≡ Refusal.By a → o ≡ some a
-unfolding refusal_by
-by_answer none a e = cc
-by_answer (some b) a e = cc
+pub otherwise : (r : Option Answer) → ((a : Answer) → r ≡ Some a → ⊥) → r ≡ None
+otherwise (Some a) h = absurd (h a refl)
+otherwise None h = refl
 
 -- ---- a record that is not refused
 
@@ -124,9 +112,9 @@ pub record Countable (s : Session) : Type 0 where
   pub command : s.control.client.held ≤ most_held
   pub reply : s.control.server.held ≤ most_held
 
-not-bad : (d : ℕ) (s e : Bool) → refusal d s e ≡ none → s ≡ true
+not-bad : (d : ℕ) (s e : Bool) → refusal d s e ≡ None → s ≡ true
 not-bad d s e =
-    refusal-cases (λ o. o ≡ none → s ≡ true) d s e (λ t q. cc) (λ t u q. cc) (λ t u v q. cc) (λ t u v q. u)
+    refusal-cases (λ o. o ≡ None → s ≡ true) d s e (λ t q. cc) (λ t u q. cc) (λ t u v q. cc) (λ t u v q. u)
 
 place-holds : (p : Place) (n : ℕ) → sound_held (is_holding p) n ≡ true → n ≤ most_held
 unfolding sound_held choose judged
@@ -155,6 +143,6 @@ sound-countable s h =
       reply = place-holds k.server.place k.server.held p.2;
     }
 
-pub countable : (s : Session) (d : ℕ) → refusal_of s d ≡ none → Countable s
+pub countable : (s : Session) (d : ℕ) → refusal_of s d ≡ None → Countable s
 unfolding refusal_of
 countable s d h = sound-countable s (not-bad d _ _ h)

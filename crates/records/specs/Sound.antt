@@ -1,6 +1,6 @@
 -- Which records number 4 refuses, and which calls are refused at all.
 use Rattle.std.specs.Prelude.{Bool, true, false, ◌&&◌, ◌||◌, List, ℕ, ◌≤◌, leb, take}
-use Rattle.std.proofs.Math.Option.{Option, none, some}
+use Rattle.std.specs.Prelude.{Option, None, Some}
 use Rattle.rules.specs.Octets.{every}
 use Rattle.rules.specs.Lines.{most_held}
 use Rattle.rules.specs.Replies.{is_open}
@@ -10,7 +10,6 @@ use Rattle.queue.specs.Kinds.{is_listed}
 use Rattle.places.specs.declared.Direction.{Direction}
 use Rattle.records.specs.declared.Control.{Control}
 use Rattle.records.specs.declared.Session.{Session}
-use Rattle.records.specs.declared.Refusal.{Refusal}
 use Rattle.places.specs.Places.{is_holding, is_ended, is_flowing_or_ended}
 
 -- not "over 511 octets held, or octets held where the line already flows, the direction has ended or its octets pass at once"
@@ -39,11 +38,6 @@ refusal_on live c kinds d = refusal d (sound_of live c kinds) (is_ended (directi
 unfoldable pub refusal_of : Session → ℕ → Option Answer
 refusal_of s d = refusal d (sound s) (is_ended (direction_of (side_of d) s.control).place)
 
--- the same, as the code's answer
-unfoldable pub refusal_by : Option Answer → Refusal
-refusal_by none = Refusal.Nothing
-refusal_by (some a) = Refusal.By a
-
 -- ---- what the arrays can hold
 
 -- a record's arrays can hold these counts; number 4 refuses a record of others
@@ -69,5 +63,5 @@ blocked c = is_open c.opening || is_flowing_or_ended c.server.place
 
 -- this page's definitions, for a proof that computes with them
 unfoldable pub sound-opened : Unit {0}
-unfolding sound_direction sound refusal_of refusal_by holdable blocked
+unfolding sound_direction sound refusal_of holdable blocked
 sound-opened = tt

@@ -8,7 +8,7 @@ ghost use Rattle.places.specs.Places.{is_passing};
 ghost use Rattle.queue.specs.Kinds.{is_listed};
 ghost use Rattle.records.specs.Controls.{with_client, with_server, layer_in, with_layers, with_layer};
 ghost use Rattle.records.specs.Controls.{telnet_read, with_ended};
-ghost use Rattle.records.specs.Sound.{sound_direction, sound_of, direction_of, refusal_on, refusal_of, refusal_by};
+ghost use Rattle.records.specs.Sound.{sound_direction, sound_of, direction_of, refusal_on, refusal_of};
 ghost use Rattle.records.specs.Sound.{blocked as is_blocked, holdable as are_holdable, side_if};
 
 use places::{Direction, Place, copied, first_octets, has_ended, in_lines, is_passing};
@@ -51,25 +51,11 @@ pub struct Session {
     pub down: Counts,
 }
 
-// What refuses a call, if anything does.
-#[derive(Clone, Copy)]
-pub enum Refusal {
-    By(Answer),
-    Nothing,
-}
-
 // Every kind is listed.
 fn kinds_listed(kinds: &[u8]) -> bool
     ensures { result ≡ every is_listed kinds.now }
 {
-    let mut i = 0;
-    while i < kinds.len() {
-        if queue::LAST < kinds[i] {
-            return false;
-        }
-        i += 1;
-    }
-    true
+    kinds.iter().all(|kind| *kind <= queue::LAST)
 }
 
 // A direction holds octets only where it may, and not too many. Mostly none are held, which decides it.
@@ -119,27 +105,27 @@ pub fn direction_of(control: Control, from_client: bool) -> Direction
     control.server
 }
 
-// What refuses a call on the direction of a number: 3, 4, 6, in this order. These parts of the record decide. The kinds
-// are read where they lie, those owed alone, or as many of them as there are: a load of all sixteen would wait for the
-// store of the last one.
-pub fn refusal_on(live: bool, control: Control, kinds: &[u8], direction: u8) -> Refusal
-    ensures { result ≡ refusal_by (refusal_on live control kinds.now direction) }
+// What refuses a call on the direction of a number: 3, 4, 6, in this order. Hosts in C give directions as numbers, and
+// number 3 refuses one that there is not, so it is no enum. These parts of the record decide. The kinds are read where
+// they lie, those owed alone, or as many as there are: a load of all sixteen would wait for the store of the last one.
+pub fn refusal_on(live: bool, control: Control, kinds: &[u8], direction: u8) -> Option<Answer>
+    ensures { result ≡ refusal_on live control kinds.now direction }
 {
     if 2 <= direction {
-        return Refusal::By(Answer::UnknownDirection);
+        return Some(Answer::UnknownDirection);
     }
     if !sound(live, control, kinds) {
-        return Refusal::By(Answer::BadRecord);
+        return Some(Answer::BadRecord);
     }
     if has_ended(direction_of(control, direction == 0)) {
-        return Refusal::By(Answer::DirectionEnded);
+        return Some(Answer::DirectionEnded);
     }
-    Refusal::Nothing
+    None
 }
 
 // The same of a whole record.
-pub fn refusal_of(session: Session, direction: u8) -> Refusal
-    ensures { result ≡ refusal_by (refusal_of session direction) }
+pub fn refusal_of(session: Session, direction: u8) -> Option<Answer>
+    ensures { result ≡ refusal_of session direction }
 {
     let control = session.control;
     let kinds = session.kinds;

@@ -4,7 +4,8 @@
 ghost use Rattle.std.specs.Prelude.{◌≡◌, length};
 ghost use Rattle.report.specs.Whole.{most_part};
 
-use report::{Part, PartState};
+use places::first_octets;
+use report::NoPart;
 use std::env::{Env, FillError};
 use std::io::Read;
 use std::rt::Files;
@@ -23,7 +24,7 @@ fn main(rt: HostRuntime) -> io::Result<()> {
         return rt.eprintln("usage: replay [FILE]");
     }
     match rt.arg(1, &mut path) {
-        Ok(n) => replay_named(&rt, first(&path, n)),
+        Ok(n) => replay_named(&rt, first_octets(&path, n)),
         Err(FillError::NotPresent) => replay_input(&rt, rt.reader(), "standard input"),
         Err(FillError::TooLong) => rt.eprintln("FILE: File name too long"),
     }
@@ -69,21 +70,21 @@ fn without_number(text: &str) -> &str {
     }
 }
 
-// The header or the refusal, and at most 48 entries (`few-parts` of the crate report).
+// The header or the refusal, then a line for each entry. Each part has room, and the last is behind the last entry
+// (`room-enough`, `goes_on` of the crate report).
 fn replay_file(rt: &(impl Print + Eprint + AllocGlobal), file: &[u8]) -> io::Result<()> {
     let mut out = part_buffer();
-    let mut part = report::start(file, &mut out);
-    let mut left = left_of(part);
-    let mut goes_on = write_part(rt, part, &out)?;
-    let mut turns = 48u16;
-    while turns > 0 && goes_on && left > 0 {
-        let replay = part.replay;
-        part = report::next(file, replay, &mut out);
-        left = left_of(part);
-        goes_on = write_part(rt, part, &out)?;
-        turns -= 1;
+    let mut next = report::start(file, &mut out);
+    while let Ok(part) = next {
+        if let Err(error) = rt.write_all(first_octets(&out, part.written)) {
+            return complain(rt, "standard output", error);
+        }
+        next = report::next(file, part.replay, &mut out);
     }
-    Ok(())
+    match next {
+        Err(NoPart::NoRoom) => rt.eprintln("the report is cut short"),
+        _ => Ok(()),
+    }
 }
 
 // Room for the longest part of a report. The `ensures` gives only the length.
@@ -92,38 +93,4 @@ fn part_buffer() -> [u8; 98324]
     ensures most { most_part ≡ length result }
 {
     [0; 98324]
-}
-
-fn left_of(part: Part) -> u16 {
-    let replay = part.replay;
-    replay.left
-}
-
-// Whether the part could be written. Each has room, and there is one while entries are left (`room-enough`, `goes_on`
-// of the crate report).
-fn write_part(
-    rt: &(impl Print + Eprint + AllocGlobal),
-    part: Part,
-    out: &[u8],
-) -> io::Result<bool> {
-    let progress = part.progress;
-    let PartState::Written = progress else {
-        rt.eprintln("the report is cut short")?;
-        return Ok(false);
-    };
-    match rt.write_all(first(out, part.written)) {
-        Ok(()) => Ok(true),
-        Err(error) => {
-            complain(rt, "standard output", error)?;
-            Ok(false)
-        }
-    }
-}
-
-// The first n octets.
-fn first(s: &[u8], n: usize) -> &[u8] {
-    if n > s.len() {
-        return s;
-    }
-    &s[..n]
 }

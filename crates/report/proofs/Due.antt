@@ -9,12 +9,13 @@ use lib.ListN.{length, take, drop, length-drop}
 use lib.Seq.{length-take-le}
 use borrow.Author.Tests.{eq-eqb, ne_eqb, lt-ltb, le-ltb, le-leb, lt-leb, eqb-false, ltb-true, leb-true, leb-false, not-true}
 use Rattle.octets.proofs.Ranges.{and_both}
-use Rattle.files.specs.declared.Verdict.{Verdict}
+use Rattle.std.specs.Prelude.{Result, Ok, Err, is_ok}
+use Rattle.files.specs.declared.FileFault.{FileFault}
 use Rattle.files.specs.Contents.{pair_at, count, verdict}
 use Rattle.files.proofs.Tables.{length_at}
 use Rattle.files.proofs.Accepted.{Accepted, accepted, Right, entry-right, entry-within}
 use Rattle.report.specs.declared.Replay.{Replay}
-use Rattle.report.specs.Replays.{entry_at, is_accepted, is_due}
+use Rattle.report.specs.Replays.{entry_at, is_due}
 
 -- ---- test by test
 
@@ -28,11 +29,11 @@ module _ (file : List ℕ) (r : Replay) where
   none_left h = rw (eq-eqb r.left 0 h)
 
   module _ (some : r.left ≡ 0 → ⊥) where
-    pub refused : is_accepted (verdict file) ≡ false → false ≡ is_due file r
+    pub refused : is_ok (verdict file) ≡ false → false ≡ is_due file r
     unfolding is_due
     refused h = rw (ne_eqb r.left 0 some, h)
 
-    module _ (ok : is_accepted (verdict file) ≡ true) (n : ℕ) (size : n ≡ pair_at file 0) where
+    module _ (ok : is_ok (verdict file) ≡ true) (n : ℕ) (size : n ≡ pair_at file 0) where
       pub no-entry : n ≤ r.number → false ≡ is_due file r
       unfolding is_due count
       no-entry h = rw (ne_eqb r.left 0 some, ok, ← size, le-ltb r.number n h)
@@ -50,11 +51,9 @@ module _ (file : List ℕ) (r : Replay) where
 
 -- ---- an entry that is due
 
-by-verdict : (v : Verdict) → is_accepted v ≡ true → v ≡ Verdict.Accepted
-unfolding is_accepted
-by-verdict Verdict.WrongLength e = cc
-by-verdict Verdict.WrongTable e = cc
-by-verdict Verdict.Accepted e = refl
+by-verdict : (v : Result Unit FileFault) → is_ok v ≡ true → v ≡ Ok tt
+by-verdict (Err fault) e = cc
+by-verdict (Ok tt) e = refl
 
 pub record Due (file : List ℕ) (r : Replay) : Type 0 where
   pub some : 1 ≤ r.left
@@ -67,8 +66,8 @@ pub record Due (file : List ℕ) (r : Replay) : Type 0 where
 pub due : (file : List ℕ) (r : Replay) → is_due file r ≡ true → Due file r
 unfolding is_due
 due file r e =
-    let p = and_both (not (eqb r.left 0) && is_accepted (verdict file) && ltb r.number (count file)) _ e in
-    let q = and_both (not (eqb r.left 0) && is_accepted (verdict file)) _ p.0 in
+    let p = and_both (not (eqb r.left 0) && is_ok (verdict file) && ltb r.number (count file)) _ e in
+    let q = and_both (not (eqb r.left 0) && is_ok (verdict file)) _ p.0 in
     let v = and_both (not (eqb r.left 0)) _ q.0 in
     let a = accepted file (by-verdict (verdict file) v.1) in
     let less = ltb-true r.number (count file) q.1 in

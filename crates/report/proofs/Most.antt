@@ -1,8 +1,8 @@
 -- How long a part is at most, and that a buffer of that size never lacks room.
-use mathlib.Core.Path.{◌≡◌, refl, ap}
+use mathlib.Core.Path.{◌≡◌, refl, ◌∙◌}
 use mathlib.Core.Bool.{Bool, true, false}
 use mathlib.Core.List.{List, [], ◌∷◌}
-use mathlib.Core.Option.{Option, none, some}
+use Rattle.std.specs.Prelude.{Option, None, Some}
 use Prim.Native.Nat.{ℕ, zero, suc, ◌*◌, ◌/◌, ◌%◌, ◌<◌, ◌≤◌}
 use native.Mathlib.Omega.{arith}
 use lib.Dec.{eqb, leb}
@@ -21,20 +21,22 @@ use Rattle.records.specs.Sound.{refusal_of}
 use Rattle.steps.specs.Takes.{takes}
 use Rattle.octets.proofs.Ranges.{and_both}
 use Rattle.steps.proofs.Fits.{takes-fit}
-use Rattle.files.specs.declared.Verdict.{Verdict}
+use Rattle.std.specs.Prelude.{Result, Ok, Err}
+use Rattle.files.specs.declared.FileFault.{FileFault}
+use Rattle.files.specs.declared.FileFault.TheVariants.{WrongLength, WrongTable}
 use Rattle.files.specs.Contents.{count, verdict, verdict_number}
 use Rattle.fields.specs.Report.{Done, out_room, stands_as_itself, hex_glyph, shown, shown_all, field, set_up, run_entry, done_by}
 use Rattle.fields.proofs.Fields.{line-of-parts, line-length, header-length, refused-length}
 use Rattle.files.proofs.Accepted.{accepted}
-use Rattle.report.specs.declared.PartState.{PartState}
+use Rattle.report.specs.declared.NoPart.{NoPart}
 use Rattle.report.specs.declared.Replay.{Replay}
-use Rattle.report.specs.Replays.{part_of, first_text_by, first_text, first_part, no_replay, first_replay, entry_at, is_due, done_at, entry_text, next_text, next_replay, next_part}
+use Rattle.report.specs.Replays.{part_of, first_text_by, first_text, first_part, first_replay, entry_at, is_due, done_at, entry_text, next_text, next_replay, next_part}
 use Rattle.report.specs.Whole.{Parts, most_part, PartMost, RoomEnough, Reached, NextWritten, AllWritten}
 use Rattle.report.specs.Whole as parts
 use Rattle.report.proofs.Due.{due}
 use Rattle.report.proofs.Runs.{told-arrived, told-ended}
 use Rattle.report.proofs.Parts.{due-part}
-use Rattle.report.proofs.Standing.{Stands, is-due, reached-stands, part-stands, after-stands, next-wrote}
+use Rattle.report.proofs.Standing.{Stands, whole, is-due, reached-stands, part-stands, after-stands}
 use Rattle.report.proofs.Whole.{after_less}
 
 -- ---- fields
@@ -76,8 +78,8 @@ record Roomy (o : Outcome) (m n : ℕ) : Type 0 where
 
 roomy-unless : (r : Option Answer) (s : Session) (o : Outcome) (m n : ℕ) → Roomy o m n → Roomy (unless_refused r s o) m n
 unfolding unless_refused refused
-roomy-unless none s o m n w = w
-roomy-unless (some x) s o m n w = record { server = omega arith; client = omega arith }
+roomy-unless None s o m n w = w
+roomy-unless (Some x) s o m n w = record { server = omega arith; client = omega arith }
 
 roomy-arrived : (s : Session) (d : ℕ) (octets : List ℕ) (m n : ℕ) → Roomy (arrived s d octets m n) m n
 unfolding arrived outcome
@@ -164,11 +166,11 @@ next-most file r true e =
     (small-entry r.session (entry_at file r).kind body))
 next-most file r false e = rw e (omega arith)
 
-first-most : (file : List ℕ) (v : Verdict) → verdict file ≡ v → length (first_text_by v file) ≤ most_part
+first-most : (file : List ℕ) (v : Result Unit FileFault) → verdict file ≡ v → length (first_text_by v file) ≤ most_part
 unfolding first_text_by verdict_number most_part
-first-most file Verdict.WrongLength e = omega (arith, refused-length 7, decimal-most 0 7 (omega arith))
-first-most file Verdict.WrongTable e = omega (arith, refused-length 8, decimal-most 0 8 (omega arith))
-first-most file Verdict.Accepted e = omega (arith, header-length (count file), decimal-most 1 (count file) (omega (arith, (accepted file e).few)))
+first-most file (Err WrongLength) e = omega (arith, refused-length 7, decimal-most 0 7 (omega arith))
+first-most file (Err WrongTable) e = omega (arith, refused-length 8, decimal-most 0 8 (omega arith))
+first-most file (Ok tt) e = omega (arith, header-length (count file), decimal-most 1 (count file) (omega (arith, (accepted file e).few)))
 
 pub part-most : PartMost
 unfolding first_text
@@ -176,30 +178,29 @@ part-most file = (first-most file (verdict file) refl, λ r. next-most file r (i
 
 -- ---- the room
 
-part-written : (text : List ℕ) (room : ℕ) (was then : Replay) → length text ≤ room → (part_of text room was then).progress ≡ PartState.Written
+part-written : (text : List ℕ) (room : ℕ) (then : Replay) → length text ≤ room → part_of text room then ≡ Ok (whole text then)
 unfolding part_of choose
-part-written text room was then h = rw (le-leb (length text) room h)
+part-written text room then h = rw (le-leb (length text) room h)
 
-due-written : (file : List ℕ) (r : Replay) (room : ℕ) → most_part ≤ room → is_due file r ≡ true → (next_part file r room).progress ≡ PartState.Written
+due-written : (file : List ℕ) (r : Replay) (room : ℕ) → most_part ≤ room → is_due file r ≡ true
+    → next_part file r room ≡ Ok (whole (next_text file r) (next_replay file r))
 due-written file r room h d =
-    rw (due-part file r d room) (part-written (next_text file r) room r (next_replay file r) (omega (arith, (part-most file).1 r)))
+    due-part file r d room ∙ part-written (next_text file r) room (next_replay file r) (omega (arith, (part-most file).1 r))
 
-never-full : (file : List ℕ) (r : Replay) (room : ℕ) → most_part ≤ room → (b : Bool) → is_due file r ≡ b → (next_part file r room).progress ≡ PartState.NoRoom → ⊥
+never-full : (file : List ℕ) (r : Replay) (room : ℕ) → most_part ≤ room → (b : Bool) → is_due file r ≡ b → next_part file r room ≡ Err NoPart.NoRoom → ⊥
 unfolding next_part choose
 never-full file r room h true d e = let w = due-written file r room h d in let z : ◌≡◌ {A = ℕ} 0 1 = cc in omega arith
-never-full file r room h false d e = let o : PartState.Over ≡ PartState.NoRoom = rw d at e in let z : ◌≡◌ {A = ℕ} 0 1 = cc in omega arith
+never-full file r room h false d e = let o : Err NoPart.Over ≡ Err NoPart.NoRoom = rw d at e in let z : ◌≡◌ {A = ℕ} 0 1 = cc in omega arith
+
+first-written : (file : List ℕ) (room : ℕ) → most_part ≤ room → first_part file room ≡ Ok (whole (first_text file) (first_replay file))
+unfolding first_part
+first-written file room h = part-written (first_text file) room (first_replay file) (omega (arith, (part-most file).0))
 
 pub room-enough : RoomEnough
-unfolding first_part
-room-enough file room h = (
-  part-written (first_text file) room no_replay (first_replay file) (omega (arith, (part-most file).0)),
-  λ r. never-full file r room h (is_due file r) refl,
-)
+room-enough file room h = ((_, first-written file room h), λ r. never-full file r room h (is_due file r) refl)
 
 pub goes_on : NextWritten
-goes_on file r room reached more h = due-written file r room h (is-due file r (reached-stands file r reached more) more)
-
--- ---- the parts to the end
+goes_on file r room reached more h = (_, due-written file r room h (is-due file r (reached-stands file r reached more) more))
 
 -- none, where none is left
 unless-none : (file : List ℕ) (r : Replay) (b : Bool) → eqb r.left 0 ≡ b → (1 ≤ r.left → (ps : List (List ℕ)) × Parts file r ps)
@@ -215,14 +216,13 @@ written_from (suc n) file out r s h room =
     unless-none file r (eqb r.left 0) refl
     (λ (one : 1 ≤ r.left).
     let d = is-due file r (s one) one in
-    let p = due-written file r (length out) room d in
-    let then = (next-wrote file r (length out) p).1.replay in
-    let next : Replay = (next_part file r (length out)).replay in
-    let less : next.left ≤ n = omega (arith, ap (λ (x : Replay). x.left) then, after_less (done_at file r).number r.left one) in
-    let rest = written_from n file out next (rw then (after-stands file r d s)) less room in
-    (_, parts.more out p rest.1))
+    let next : Replay = next_replay file r in
+    let less : next.left ≤ n = omega (arith, after_less (done_at file r).number r.left one) in
+    let rest = written_from n file out next (after-stands file r d s) less room in
+    (_, parts.more out (due-written file r (length out) room d) rest.1))
 
 pub all-written : AllWritten
 all-written file out room =
-    let r : Replay = (first_part file (length out)).replay in
-    written_from r.left file out r (part-stands file (length out)) (omega arith) room
+    let r : Replay = first_replay file in
+    let h = first-written file (length out) room in
+    (whole (first_text file) r, (h, written_from r.left file out r (part-stands file (length out) h) (omega arith) room))

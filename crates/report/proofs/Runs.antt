@@ -1,17 +1,16 @@
 -- What an entry does, by its kind, and how much it takes and writes.
-use mathlib.Core.Path.{◌≡◌, refl, sym, ap, ◌∙◌}
+use mathlib.Core.Path.{◌≡◌, refl, sym}
 use mathlib.Core.Bool.{Bool, true, false}
 use mathlib.Core.List.{List, [], ◌∷◌}
-use mathlib.Core.Option.{Option, none, some}
+use Rattle.std.specs.Prelude.{Option, None, Some}
 use Prim.Native.Nat.{ℕ, zero, suc, ◌-◌, ◌<◌, ◌≤◌}
 use native.Mathlib.Omega.{arith}
-use lib.ListN.{length, take}
+use lib.ListN.{length, length-append}
 use lib.Seq.{take_at}
-use Rattle.rules.specs.Answers.{Side, client, server, side_of, answer_number, fits}
+use Rattle.rules.specs.Answers.{Side, client, server, side_of, fits}
 use Rattle.rules.specs.declared.Answer.{Answer}
 use Rattle.session.specs.declared.Called.{Called}
 use Rattle.rules.specs.declared.Fixed.{Fixed}
-use Rattle.setups.specs.declared.Prepared.{Prepared}
 use Rattle.records.specs.declared.Session.{Session}
 use Rattle.steps.specs.Steps.{State, Step, octet_step}
 use Rattle.steps.specs.Takes.{Took, unless_stopped, stop_of, takes}
@@ -20,7 +19,7 @@ use Rattle.session.specs.Calls.{Outcome, refused, unless_refused, outcome, state
 use Rattle.records.specs.Sound.{refusal_of}
 use Rattle.fields.specs.Report.{Done, out_room, done_by, set_up, run_entry}
 use Rattle.report.specs.declared.EntryRan.{EntryRan}
-use Rattle.report.specs.Ran.{ran_by, ran_of}
+use Rattle.report.specs.Ran.{done_in, ran_of, setup_kept}
 
 -- ---- by its kind
 
@@ -51,8 +50,8 @@ module _ (s : Session) where
 
 unless-most : (o : Option Answer) (s : State) (r : Took) (n : ℕ) → r.taken ≤ n → (unless_stopped o s r).taken ≤ n
 unfolding unless_stopped
-unless-most none s r n h = h
-unless-most (some a) s r n h = omega arith
+unless-most None s r n h = h
+unless-most (Some a) s r n h = omega arith
 
 takes-most : (f : Fixed) (d : Side) (s : State) (xs : List ℕ) (m n : ℕ) → (takes f d s xs m n).taken ≤ length xs
 unfolding takes
@@ -70,8 +69,8 @@ pub record Told (o : Outcome) (n : ℕ) : Type 0 where
 
 told-unless : (r : Option Answer) (s : Session) (o : Outcome) (n : ℕ) → Told o n → Told (unless_refused r s o) n
 unfolding unless_refused refused
-told-unless none s o n t = t
-told-unless (some a) s o n t = record { taken = omega arith; server = refl; client = refl }
+told-unless None s o n t = t
+told-unless (Some a) s o n t = record { taken = omega arith; server = refl; client = refl }
 
 pub told-arrived : (s : Session) (d : ℕ) (octets : List ℕ) (m n : ℕ) → Told (arrived s d octets m n) (length octets)
 unfolding arrived outcome
@@ -96,48 +95,20 @@ told-ended s d m n =
 -- what an entry's run promises: the result r, and the buffers then
 abbrev pub Kept : Done → EntryRan → List ℕ → List ℕ → Type 0
 Kept d r out other =
-    (r ≡ ran_by d) × ((take r.written.server out ≡ d.to_server) × (take r.written.client other ≡ d.to_client))
-
-same-ran : (o : Outcome) (n : ℕ) → Told o n → ran_of o.called ≡ ran_by (done_by o)
-unfolding ran_of ran_by
-same-ran o n t = rw (← t.server, ← t.client)
+    (done_in r out other ≡ d) × ((r.written.server ≤ length out) × (r.written.client ≤ length other))
 
 pub kept-call : (d : Done) (o : Outcome) (n : ℕ) (out other : List ℕ) {c : Called} {r : EntryRan} {out' other' : List ℕ} → Told o n → d ≡ done_by o → c ≡ o.called → r ≡ ran_of c
     → out' ≡ buffer_after client o out → other' ≡ buffer_after server o other → Kept d r out' other'
-unfolding ran_of
+unfolding done_in
 kept-call d o n out other t e p q w v =
     rw (e, q, w, v, p) (
-      same-ran o n t,
+      rw (take_at o.to_server _ _ (sym t.server), take_at o.to_client _ _ (sym t.client)),
       (
-        take_at o.to_server _ _ (sym t.server),
-        take_at o.to_client _ _ (sym t.client),
+        rw length-append (omega (arith, t.server)),
+        rw length-append (omega (arith, t.client)),
       ),
     )
 
-pub kept-setup : (d : Done) (body : List ℕ) {r : EntryRan} (out other : List ℕ) → d ≡ set_up body → r ≡ ran_by (set_up body) → Kept d r out other
-unfolding set_up ran_by
-kept-setup d body out other e q = rw (e, q) (refl, (refl, refl))
-
-take_short : (n : ℕ) (l : List ℕ) → length (take n l) ≤ length l
-take_short zero l = omega arith
-take_short (suc n) [] = omega arith
-take_short (suc n) (x ∷ l) = omega (arith, take_short n l)
-
-sizes : (d : Done) → ((ran_by d).written.server ≡ length d.to_server) × ((ran_by d).written.client ≡ length d.to_client)
-unfolding ran_by
-sizes d = (refl, refl)
-
--- what was written lies within the buffers
-pub written-within : (d : Done) {r : EntryRan} (out other : List ℕ) → Kept d r out other → (r.written.server ≤ length out) × (r.written.client ≤ length other)
-written-within d {r} out other k =
-    let server : r.written.server ≡ length d.to_server = ap (λ (x : EntryRan). x.written.server) k.0 ∙ (sizes d).0 in
-    let client : r.written.client ≡ length d.to_client = ap (λ (x : EntryRan). x.written.client) k.0 ∙ (sizes d).1 in (
-      omega (arith, ap length k.1.0, take_short r.written.server out),
-      omega (arith, ap length k.1.1, take_short r.written.client other),
-    )
-
--- a setup by what its body gives
-pub setup-ran : (body : List ℕ) {p : Prepared} {n : ℕ} → p ≡ prepared_from body → n ≡ answer_number p.answer
-    → ◌≡◌ {A = EntryRan} (record { taken = 0; answer = n; written = record { server = 0; client = 0 }; session = p.session }) (ran_by (set_up body))
-unfolding ran_by set_up
-setup-ran body e n = rw (n, e)
+pub kept-setup : (d : Done) (body : List ℕ) {r : EntryRan} (out other : List ℕ) → d ≡ set_up body → r ≡ setup_kept (prepared_from body) → Kept d r out other
+unfolding set_up done_in
+kept-setup d body out other e q = rw (e, q) (refl, (omega arith, omega arith))

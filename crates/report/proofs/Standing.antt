@@ -13,15 +13,16 @@ use Rattle.rules.specs.Octets.{oct, choose}
 use Rattle.output.specs.Buffer.{put_at}
 use Rattle.output.proofs.Placing.{take-put-at}
 use Rattle.records.specs.declared.Session.{Session}
-use Rattle.files.specs.declared.Verdict.{Verdict}
+use Rattle.std.specs.Prelude.{Result, Ok, Err}
+use Rattle.files.specs.declared.FileFault.{FileFault}
 use Rattle.files.specs.Contents.{Entry, entries, count, table_of, bodies_length, verdict}
 use Rattle.fields.specs.Report.{entry_line, entry_lines}
 use Rattle.files.proofs.Tables.{entries_next}
 use Rattle.files.proofs.Accepted.{accepted}
-use Rattle.report.specs.declared.PartState.{PartState}
+use Rattle.report.specs.declared.NoPart.{NoPart}
 use Rattle.report.specs.declared.Replay.{Replay}
 use Rattle.report.specs.declared.Part.{Part}
-use Rattle.report.specs.Replays.{part_of, no_replay, first_replay_by, first_replay, first_text, first_part, entry_at, is_accepted, is_due, done_at, entry_text, next_text, left_after, next_replay, next_part}
+use Rattle.report.specs.Replays.{part_of, no_replay, first_replay_by, first_replay, first_text, first_part, entry_at, is_due, done_at, entry_text, next_text, left_after, next_replay, next_part}
 use Rattle.report.specs.Whole.{Reached, started, called}
 use Rattle.report.proofs.Due.{due}
 use Rattle.report.proofs.Parts.{due-text, due-part}
@@ -34,36 +35,34 @@ pub record Wrote (p : Part) (text : List ℕ) (room : ℕ) (then : Replay) : Typ
   pub written : p.written ≡ length text
   pub replay : p.replay ≡ then
 
-abbrev whole : List ℕ → Replay → Part
-whole text then = record { progress = PartState.Written; written = length text; replay = then }
+abbrev pub whole : List ℕ → Replay → Part
+whole text then = record { written = length text; replay = then }
 
-abbrev nothing : Replay → Part
-nothing was = record { progress = PartState.NoRoom; written = 0; replay = was }
-
-by-room : (text : List ℕ) (room : ℕ) (was then : Replay) (b : Bool) → leb (length text) room ≡ b → (choose b (whole text then) (nothing was)).progress ≡ PartState.Written
-    → Wrote (choose b (whole text then) (nothing was)) text room then
+by-room : (text : List ℕ) (room : ℕ) (then : Replay) {p : Part} (b : Bool) → leb (length text) room ≡ b
+    → choose b (Ok (whole text then)) (Err NoPart.NoRoom) ≡ Ok p → Wrote p text room then
 unfolding choose
-by-room text room was then true t e = record { fits = leb-true (length text) room t; written = refl; replay = refl }
-by-room text room was then false t e = absurd (let z : ◌≡◌ {A = ℕ} 0 1 = cc in omega arith)
+by-room text room then {p} true t e =
+    let same : whole text then ≡ p = cc in record { fits = leb-true (length text) room t; written = rw (← same); replay = rw (← same) }
+by-room text room then false t e = absurd (let z : ◌≡◌ {A = ℕ} 0 1 = cc in omega arith)
 
-part-wrote : (text : List ℕ) (room : ℕ) (was then : Replay) → (part_of text room was then).progress ≡ PartState.Written → Wrote (part_of text room was then) text room then
+part-wrote : (text : List ℕ) (room : ℕ) (then : Replay) {p : Part} → part_of text room then ≡ Ok p → Wrote p text room then
 unfolding part_of
-part-wrote text room was then h = by-room text room was then (leb (length text) room) refl h
+part-wrote text room then h = by-room text room then (leb (length text) room) refl h
 
-pub first-wrote : (file : List ℕ) (room : ℕ) → (first_part file room).progress ≡ PartState.Written → Wrote (first_part file room) (first_text file) room (first_replay file)
+pub first-wrote : (file : List ℕ) (room : ℕ) {p : Part} → first_part file room ≡ Ok p → Wrote p (first_text file) room (first_replay file)
 unfolding first_part
-first-wrote file room h = part-wrote (first_text file) room no_replay (first_replay file) h
+first-wrote file room h = part-wrote (first_text file) room (first_replay file) h
 
-module _ (file : List ℕ) (r : Replay) (room : ℕ) where
-  by-due : (b : Bool) → is_due file r ≡ b → (next_part file r room).progress ≡ PartState.Written → is_due file r ≡ true
+module _ (file : List ℕ) (r : Replay) (room : ℕ) {p : Part} where
+  by-due : (b : Bool) → is_due file r ≡ b → next_part file r room ≡ Ok p → is_due file r ≡ true
   unfolding next_part choose
   by-due true t e = t
-  by-due false t e = let o : PartState.Over ≡ PartState.Written = rw t at e in absurd (let z : ◌≡◌ {A = ℕ} 0 1 = cc in omega arith)
+  by-due false t e = let o : Err NoPart.Over ≡ Ok p = rw t at e in absurd (let z : ◌≡◌ {A = ℕ} 0 1 = cc in omega arith)
 
-  pub next-wrote : (next_part file r room).progress ≡ PartState.Written → (is_due file r ≡ true) × Wrote (next_part file r room) (next_text file r) room (next_replay file r)
+  pub next-wrote : next_part file r room ≡ Ok p → (is_due file r ≡ true) × Wrote p (next_text file r) room (next_replay file r)
   next-wrote h =
       let d = by-due (is_due file r) refl h in
-      (d, rw (due-part file r d room) (part-wrote (next_text file r) room r (next_replay file r) (rw (due-part file r d room) at h)))
+      (d, part-wrote (next_text file r) room (next_replay file r) (sym (due-part file r d room) ∙ h))
 
 -- what lies at the front of the buffer is the text
 pub front-text : (out text : List ℕ) {n : ℕ} → length text ≤ length out → n ≡ length text → take n (put_at out 0 text) ≡ text
@@ -74,26 +73,21 @@ front-text out text h e =
 -- ---- where an entry is left
 
 pub record Going (file : List ℕ) (r : Replay) : Type 0 where
-  pub right : verdict file ≡ Verdict.Accepted
+  pub right : verdict file ≡ Ok tt
   pub numbers : r.number + r.left ≡ count file
   pub bodies : r.body + bodies_length (entries r.left (drop (2 + 4 * r.number) file)) ≡ length file
 
 abbrev pub Stands : List ℕ → Replay → Type 0
 Stands file r = 1 ≤ r.left → Going file r
 
-by-verdict : (file : List ℕ) (v : Verdict) → verdict file ≡ v → Stands file (first_replay_by v file)
+by-verdict : (file : List ℕ) (v : Result Unit FileFault) → verdict file ≡ v → Stands file (first_replay_by v file)
 unfolding first_replay_by no_replay table_of
-by-verdict file Verdict.WrongLength e h = absurd (omega arith)
-by-verdict file Verdict.WrongTable e h = absurd (omega arith)
-by-verdict file Verdict.Accepted e h = record { right = e; numbers = omega arith; bodies = sym (accepted file e).total }
+by-verdict file (Err fault) e h = absurd (omega arith)
+by-verdict file (Ok tt) e h = record { right = e; numbers = omega arith; bodies = sym (accepted file e).total }
 
 first-stands : (file : List ℕ) → Stands file (first_replay file)
 unfolding first_replay
 first-stands file = by-verdict file (verdict file) refl
-
-none-stands : (file : List ℕ) → Stands file no_replay
-unfolding no_replay
-none-stands file h = absurd (omega arith)
 
 -- the entries left are the next one and the others
 module _ (file : List ℕ) (r : Replay) (g : Going file r) (some : 1 ≤ r.left) where
@@ -108,7 +102,7 @@ module _ (file : List ℕ) (r : Replay) (g : Going file r) (some : 1 ≤ r.left)
   split = rw listed
 
   pub is-due : is_due file r ≡ true
-  unfolding is_due is_accepted
+  unfolding is_due
   is-due =
       rw (ne_eqb r.left 0 (λ (z : r.left ≡ 0). omega arith), g.right, lt-ltb r.number (count file) (omega (arith, g.numbers)), le-leb (r.body + (entry_at file r).length) (length file) (omega (arith, g.bodies, split)))
 
@@ -131,30 +125,18 @@ next-stands file r g some h =
 
 -- ---- of every replay that calls lead to
 
-by_part : (P : Replay → Type 0) (text : List ℕ) (was then : Replay) (b : Bool) → P was → P then → P (choose b (whole text then) (nothing was)).replay
-unfolding choose
-by_part P text was then true p q = q
-by_part P text was then false p q = p
-
-pub part-replay : (P : Replay → Type 0) (text : List ℕ) (room : ℕ) (was then : Replay) → P was → P then → P (part_of text room was then).replay
-unfolding part_of
-part-replay P text room was then p q = by_part P text was then (leb (length text) room) p q
-
 pub after-stands : (file : List ℕ) (r : Replay) → is_due file r ≡ true → Stands file r → Stands file (next_replay file r)
 after-stands file r d s = let some = (due file r d).some in next-stands file r (s some) some
 
-call-stands : (file : List ℕ) (r : Replay) (room : ℕ) (b : Bool) → is_due file r ≡ b → Stands file r → Stands file (next_part file r room).replay
-unfolding next_part choose
-call-stands file r room true d s = rw d (part-replay (Stands file) (next_text file r) room r (next_replay file r) s (after-stands file r d s))
-call-stands file r room false d s = rw d s
+pub call-stands : (file : List ℕ) (r : Replay) (room : ℕ) {p : Part} → next_part file r room ≡ Ok p → Stands file r → Stands file p.replay
+call-stands file r room h s = let w = next-wrote file r room h in rw w.1.replay (after-stands file r w.0 s)
 
-pub part-stands : (file : List ℕ) (room : ℕ) → Stands file (first_part file room).replay
-unfolding first_part
-part-stands file room = part-replay (Stands file) (first_text file) room no_replay (first_replay file) (none-stands file) (first-stands file)
+pub part-stands : (file : List ℕ) (room : ℕ) {p : Part} → first_part file room ≡ Ok p → Stands file p.replay
+part-stands file room h = rw (first-wrote file room h).replay (first-stands file)
 
 pub reached-stands : (file : List ℕ) (r : Replay) → Reached file r → Stands file r
-reached-stands file r (started room) = part-stands file room
-reached-stands file r (called {r = before} room h) = call-stands file before room (is_due file before) refl (reached-stands file before h)
+reached-stands file r (started room h) = part-stands file room h
+reached-stands file r (called {r = before} room before-reached h) = call-stands file before room h (reached-stands file before before-reached)
 
 -- ---- what is left of the report
 

@@ -9,32 +9,35 @@ use lib.Dec.{eqb, leb}
 use lib.ListN.{length, length-append}
 use borrow.Author.Tests.{eq-eqb, ne_eqb}
 use Rattle.rules.specs.Octets.{oct, choose}
+use Rattle.rules.specs.Answers.{answer_number}
+use Rattle.rules.specs.declared.Answer.{Answer}
+use Rattle.rules.specs.declared.Answer.TheVariants as a
 use Rattle.output.specs.Buffer.{fits_at, position_after}
+use Rattle.std.specs.Prelude.{Result, Ok, Err}
 use Rattle.fields.specs.Report.{Done, entry_line}
 use Rattle.fields.specs.Parts.{done_of}
 use Rattle.fields.proofs.Fields.{line-of-parts, line-length}
-use Rattle.report.specs.declared.PartState.{PartState}
+use Rattle.report.specs.declared.NoPart.{NoPart}
 use Rattle.report.specs.declared.Replay.{Replay}
 use Rattle.report.specs.declared.Part.{Part}
 use Rattle.report.specs.Replays.{part_of, entry_text, left_after}
 
 -- ---- a part
 
-abbrev pub part_by : ℕ → Replay → Replay → Part
-part_by n was then =
-    choose (eqb n 0) (record { progress = PartState.NoRoom; written = 0; replay = was }) (record { progress = PartState.Written; written = n; replay = then })
+abbrev pub part_by : ℕ → Replay → Result Part NoPart
+part_by n then = choose (eqb n 0) (Err NoPart.NoRoom) (Ok (record { written = n; replay = then }))
 
-by-room : (n : ℕ) (was then : Replay) → 1 ≤ n → (b : Bool)
-    → part_by (choose b n 0) was then ≡ choose b (record { progress = PartState.Written; written = n; replay = then }) (record { progress = PartState.NoRoom; written = 0; replay = was })
+by-room : (n : ℕ) (then : Replay) → 1 ≤ n → (b : Bool)
+    → part_by (choose b n 0) then ≡ choose b (Ok (record { written = n; replay = then })) (Err NoPart.NoRoom)
 unfolding choose
-by-room n was then some true = rw (ne_eqb n 0 (λ (z : n ≡ 0). omega arith))
-by-room n was then some false = refl
+by-room n then some true = rw (ne_eqb n 0 (λ (z : n ≡ 0). omega arith))
+by-room n then some false = refl
 
 -- as many octets are written as the text has, or none, which no text has
-pub part-put : (text out : List ℕ) (was then : Replay) {n : ℕ} → 1 ≤ length text → n ≡ position_after out 0 text
-    → part_by n was then ≡ part_of text (length out) was then
+pub part-put : (text out : List ℕ) (then : Replay) {n : ℕ} → 1 ≤ length text → n ≡ position_after out 0 text
+    → part_by n then ≡ part_of text (length out) then
 unfolding part_of position_after fits_at
-part-put text out was then some p = rw (p, zero-add (length text)) (by-room (length text) was then some (leb (length text) (length out)))
+part-put text out then some p = rw (p, zero-add (length text)) (by-room (length text) then some (leb (length text) (length out)))
 
 -- ---- the text of an entry
 
@@ -73,14 +76,19 @@ at_zero n taken answer to_server to_client h = goes_on n (done_of taken answer t
 
 -- ---- the entries left
 
-pub none_after : (answer left : ℕ) → (answer ≡ 0 → ⊥) → 0 ≡ left_after answer left
-unfolding left_after choose
-none_after answer left h = rw (ne_eqb answer 0 h)
+some_number : (r : Answer) → (r ≡ a.Done → ⊥) → answer_number r ≡ 0 → ⊥
+some_number a.Done h = λ (z : answer_number a.Done ≡ 0). h refl
+some_number a.QueueFull h = λ (z : answer_number a.QueueFull ≡ 0). omega arith
+some_number a.NoRoom h = λ (z : answer_number a.NoRoom ≡ 0). omega arith
+some_number a.UnknownDirection h = λ (z : answer_number a.UnknownDirection ≡ 0). omega arith
+some_number a.BadRecord h = λ (z : answer_number a.BadRecord ≡ 0). omega arith
+some_number a.BadSetup h = λ (z : answer_number a.BadSetup ≡ 0). omega arith
+some_number a.DirectionEnded h = λ (z : answer_number a.DirectionEnded ≡ 0). omega arith
 
-pub still-none : (answer left : ℕ) → answer ≡ 0 → left ≡ 0 → 0 ≡ left_after answer left
+pub none_after : (r : Answer) (left : ℕ) → (r ≡ a.Done → ⊥) → 0 ≡ left_after (answer_number r) left
 unfolding left_after choose
-still-none answer left h z = rw (eq-eqb answer 0 h, z)
+none_after r left h = rw (ne_eqb (answer_number r) 0 (some_number r h))
 
-pub one_less : (answer left : ℕ) → answer ≡ 0 → left - 1 ≡ left_after answer left
+pub one_less : (r : Answer) (left : ℕ) → r ≡ a.Done → left - 1 ≡ left_after (answer_number r) left
 unfolding left_after choose
-one_less answer left h = rw (eq-eqb answer 0 h)
+one_less r left h = rw h

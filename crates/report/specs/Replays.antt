@@ -1,29 +1,27 @@
 -- A replay writes the report of a session file part by part: the header or the refusal, then the line of each entry.
-use Rattle.std.specs.Prelude.{Bool, true, false, ◌&&◌, not, List, [], ◌++◌, ℕ, ◌+◌, ◌-◌, ◌*◌, eqb, leb, ltb, length, take, drop}
+use Rattle.std.specs.Prelude.{Result, Ok, Err, is_ok, Bool, ◌&&◌, not, List, [], ◌++◌, ℕ, ◌+◌, ◌-◌, ◌*◌, eqb, leb, ltb, length, take, drop}
 use Rattle.rules.specs.Octets.{oct, choose}
 use Rattle.setups.specs.Setups.{dead_session}
-use Rattle.files.specs.declared.Verdict.{Verdict}
+use Rattle.files.specs.declared.FileFault.{FileFault}
 use Rattle.files.specs.Contents.{Entry, entry_of, count, table_end, verdict, verdict_number}
 use Rattle.fields.specs.Report.{Done, run_entry, entry_line, header_line, refused_line}
-use Rattle.report.specs.declared.PartState.{PartState}
+use Rattle.report.specs.declared.NoPart.{NoPart}
 use Rattle.report.specs.declared.Replay.{Replay}
 use Rattle.report.specs.declared.Part.{Part}
 
 -- ---- a part
 
--- a text that has room is written and the replay goes on; one that has none is not, and the replay stays as it was
-unfoldable pub part_of : List ℕ → ℕ → Replay → Replay → Part
-part_of text room was then =
-    choose (leb (length text) room) (record { progress = PartState.Written; written = length text; replay = then })
-    (record { progress = PartState.NoRoom; written = 0; replay = was })
+-- a text that has room is written and the replay goes on; one that has none is not
+unfoldable pub part_of : List ℕ → ℕ → Replay → Result Part NoPart
+part_of text room then =
+    choose (leb (length text) room) (Ok (record { written = length text; replay = then })) (Err NoPart.NoRoom)
 
 -- ---- the first part
 
 -- "the single line `REFUSED 7` .. or `REFUSED 8`", or "a header with the entry count"
-unfoldable pub first_text_by : Verdict → List ℕ → List ℕ
-first_text_by Verdict.WrongLength file = refused_line (verdict_number Verdict.WrongLength)
-first_text_by Verdict.WrongTable file = refused_line (verdict_number Verdict.WrongTable)
-first_text_by Verdict.Accepted file = header_line (count file)
+unfoldable pub first_text_by : Result Unit FileFault → List ℕ → List ℕ
+first_text_by (Err fault) file = refused_line (verdict_number (Err fault))
+first_text_by (Ok done) file = header_line (count file)
 
 -- the text of a file's first part
 unfoldable pub first_text : List ℕ → List ℕ
@@ -34,19 +32,18 @@ unfoldable pub no_replay : Replay
 no_replay = record { session = dead_session; number = 0; body = 0; left = 0 }
 
 -- all entries are left: "A table of contents first, then the bodies"
-unfoldable pub first_replay_by : Verdict → List ℕ → Replay
-first_replay_by Verdict.WrongLength file = no_replay
-first_replay_by Verdict.WrongTable file = no_replay
-first_replay_by Verdict.Accepted file =
+unfoldable pub first_replay_by : Result Unit FileFault → List ℕ → Replay
+first_replay_by (Err fault) file = no_replay
+first_replay_by (Ok done) file =
     record { session = dead_session; number = 0; body = table_end file; left = count file }
 
 -- where the replay of a file stands after its first part
 unfoldable pub first_replay : List ℕ → Replay
 first_replay file = first_replay_by (verdict file) file
 
--- the first part of a file, by the room in the buffer; where its text has none, no entry is left
-unfoldable pub first_part : List ℕ → ℕ → Part
-first_part file room = part_of (first_text file) room no_replay (first_replay file)
+-- the first part of a file, by the room in the buffer
+unfoldable pub first_part : List ℕ → ℕ → Result Part NoPart
+first_part file room = part_of (first_text file) room (first_replay file)
 
 -- ---- the part of an entry
 
@@ -55,10 +52,8 @@ abbrev pub entry_at : List ℕ → Replay → Entry
 entry_at file r = entry_of (drop (2 + 4 * r.number) file)
 
 -- a file of this verdict is not refused
-unfoldable pub is_accepted : Verdict → Bool
-is_accepted Verdict.WrongLength = false
-is_accepted Verdict.WrongTable = false
-is_accepted Verdict.Accepted = true
+abbrev pub is_accepted : Result Unit FileFault → Bool
+is_accepted v = is_ok v
 
 -- an entry is left, and it and its body lie within a file that is not refused
 unfoldable pub is_due : List ℕ → Replay → Bool
@@ -94,7 +89,6 @@ next_replay file r =
     }
 
 -- the part of that entry, by the room in the buffer; where none is due, the replay is over
-unfoldable pub next_part : List ℕ → Replay → ℕ → Part
+unfoldable pub next_part : List ℕ → Replay → ℕ → Result Part NoPart
 next_part file r room =
-    choose (is_due file r) (part_of (next_text file r) room r (next_replay file r))
-    (record { progress = PartState.Over; written = 0; replay = r })
+    choose (is_due file r) (part_of (next_text file r) room (next_replay file r)) (Err NoPart.Over)

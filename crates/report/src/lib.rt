@@ -2,21 +2,23 @@
 // each entry.
 #![tactic(auto)]
 
-ghost use Rattle.std.specs.Prelude.{◌≡◌, ◌≤◌, eqb, length, take};
+ghost use Rattle.std.specs.Prelude.{◌≡◌, ◌≤◌, Ok, Err, eqb, length};
+ghost use Rattle.rules.specs.Answers.{answer_number};
 ghost use Rattle.rules.specs.Octets.{choose};
 ghost use Rattle.output.specs.Buffer.{Put, put_at};
-ghost use Rattle.setups.specs.Setups.{dead_session};
-ghost use Rattle.fields.specs.Report.{out_room, set_up, run_entry};
+ghost use Rattle.setups.specs.Setups.{dead_session, prepared_from};
+ghost use Rattle.files.specs.Contents.{verdict_number};
+ghost use Rattle.fields.specs.Report.{out_room, refused_line, run_entry};
 ghost use Rattle.fields.specs.Parts.{done_of};
-ghost use Rattle.report.specs.Replays.{first_text, first_part, is_accepted, is_due, entry_text, next_text, left_after};
+ghost use Rattle.report.specs.Replays.{first_text, first_part, is_due, entry_text, next_text, left_after};
 ghost use Rattle.report.specs.Replays.{next_part, no_replay as none_left};
-ghost use Rattle.report.specs.Ran.{ran_by, ran_of};
+ghost use Rattle.report.specs.Ran.{done_in, ran_of, setup_kept};
 
 use fields::{line_fits, put_entry_line, put_header};
-use files::{Verdict, judge, pair_at};
+use files::{FileFault, judge, pair_at};
 use output::put;
 use records::Session;
-use rules::number_of;
+use rules::Answer;
 use session::{Called, arrive, end};
 use setups::{refused_setup, setup_from};
 use steps::Written;
@@ -31,41 +33,38 @@ pub struct Replay {
     pub left: u16,
 }
 
-// A part is written whole, has no room, or there is none: no entry of the file is left where the replay stands.
-#[derive(Clone, Copy)]
-pub enum PartState {
-    Written,
-    NoRoom,
-    Over,
-}
-
-// What became of a part, how many octets were written, and where the replay stands then.
+// A part that was written whole: how many octets, and where the replay stands then.
 #[derive(Clone, Copy)]
 pub struct Part {
-    pub progress: PartState,
     pub written: usize,
     pub replay: Replay,
 }
 
-// What an entry did: octets taken, the answer's number, how much it wrote into each buffer, and the record then.
+// Why no part was written: it has no room, or there is none, since no entry of the file is left where the replay
+// stands. The replay that the caller passed still stands where it stood.
+#[derive(Clone, Copy)]
+pub enum NoPart {
+    NoRoom,
+    Over,
+}
+
+// What an entry did: octets taken, the answer, how much it wrote into each buffer, and the record then.
 #[derive(Clone, Copy)]
 struct EntryRan {
     taken: u16,
-    answer: u8,
+    answer: Answer,
     written: Written,
     session: Session,
 }
 
 // The report's first line: the header, or the refusal, after which no entry is left.
-pub fn start(file: &[u8], out: &mut [u8]) -> Part
+pub fn start(file: &[u8], out: &mut [u8]) -> Result<Part, NoPart>
     ensures result { result ≡ first_part file.now (length out.old) }
     ensures buffer { out.new ≡ put_at out.old 0 (first_text file.now) }
 {
-    let verdict = judge(file);
-    match verdict {
-        Verdict::WrongLength => part_of(put(out, 0, b"REFUSED 7\n"), no_replay(), no_replay()),
-        Verdict::WrongTable => part_of(put(out, 0, b"REFUSED 8\n"), no_replay(), no_replay()),
-        Verdict::Accepted => {
+    match judge(file) {
+        Err(fault) => part_of(put_refusal(out, fault), no_replay()),
+        Ok(()) => {
             let count = pair_at(file, 0);
             let whole = Replay {
                 session: no_session(),
@@ -73,42 +72,44 @@ pub fn start(file: &[u8], out: &mut [u8]) -> Part
                 body: 2 + 4 * count,
                 left: count as u16,
             };
-            part_of(put_header(out, 0, count as u16), no_replay(), whole)
+            part_of(put_header(out, 0, count as u16), whole)
         }
     }
 }
 
+// The line of a refusal, or nothing where it does not fit; the next position.
+fn put_refusal(out: &mut [u8], fault: FileFault) -> usize
+    ensures { Put out.old 0 (refused_line (verdict_number (Err fault))) result out.new }
+{
+    match fault {
+        FileFault::WrongLength => put(out, 0, b"REFUSED 7\n"),
+        FileFault::WrongTable => put(out, 0, b"REFUSED 8\n"),
+    }
+}
+
 // The line of the next entry, and STOPPED where no more follow it.
-pub fn next(file: &[u8], replay: Replay, out: &mut [u8]) -> Part
+pub fn next(file: &[u8], replay: Replay, out: &mut [u8]) -> Result<Part, NoPart>
     ensures result { result ≡ next_part file.now replay (length out.old) }
     ensures buffer { out.new ≡ put_at out.old 0 (next_text file.now replay) }
 {
     if !is_due(file, replay) {
-        return Part {
-            progress: PartState::Over,
-            written: 0,
-            replay,
-        };
+        return Err(NoPart::Over);
     }
     let number = replay.number;
     let at = 2 + 4 * number as usize;
     let body = replay.body;
     let body_end = body + pair_at(file, at + 2);
-    let before = replay.session;
     let mut to_server = empty();
     let mut to_client = empty();
     let ran = run_entry(
-        before,
+        replay.session,
         file[at],
         &file[body..body_end],
         &mut to_server,
         &mut to_client,
     );
-    let session = ran.session;
-    let server = ran.written.server;
-    let client = ran.written.client;
     let after = Replay {
-        session,
+        session: ran.session,
         number: number + 1,
         body: body_end,
         left: left_after(ran.answer, replay.left),
@@ -118,38 +119,28 @@ pub fn next(file: &[u8], replay: Replay, out: &mut [u8]) -> Part
         number,
         ran.taken,
         ran.answer,
-        &to_server[..server],
-        &to_client[..client],
+        &to_server[..ran.written.server],
+        &to_client[..ran.written.client],
     );
-    part_of(written, replay, after)
+    part_of(written, after)
 }
 
 // A part of which so many octets were written: no text is empty, so none means that it had no room.
-fn part_of(written: usize, before: Replay, after: Replay) -> Part
-    ensures { result ≡ choose (eqb written 0)
-        (record { progress = PartState.NoRoom; written = 0; replay = before })
-        (record { progress = PartState.Written; written = written; replay = after }) }
+fn part_of(written: usize, replay: Replay) -> Result<Part, NoPart>
+    ensures { result ≡ choose (eqb written 0) (Err NoPart.NoRoom)
+        (Ok (record { written = written; replay = replay })) }
 {
     if written == 0 {
-        return Part {
-            progress: PartState::NoRoom,
-            written: 0,
-            replay: before,
-        };
+        return Err(NoPart::NoRoom);
     }
-    Part {
-        progress: PartState::Written,
-        written,
-        replay: after,
-    }
+    Ok(Part { written, replay })
 }
 
 // The record before any setup: the one that a refused setup leaves.
 fn no_session() -> Session
     ensures { result ≡ dead_session }
 {
-    let p = refused_setup();
-    p.session
+    refused_setup().session
 }
 
 fn no_replay() -> Replay
@@ -170,7 +161,7 @@ fn is_due(file: &[u8], replay: Replay) -> bool
     if replay.left == 0 {
         return false;
     }
-    if !is_accepted(judge(file)) {
+    if judge(file).is_err() {
         return false;
     }
     let number = replay.number as usize;
@@ -184,26 +175,13 @@ fn is_due(file: &[u8], replay: Replay) -> bool
     replay.body <= file.len() - length
 }
 
-fn is_accepted(verdict: Verdict) -> bool
-    ensures { result ≡ is_accepted verdict }
+fn left_after(answer: Answer, left: u16) -> u16
+    ensures { result ≡ left_after (answer_number answer) left }
 {
-    match verdict {
-        Verdict::WrongLength => false,
-        Verdict::WrongTable => false,
-        Verdict::Accepted => true,
+    match answer {
+        Answer::Done => left.saturating_sub(1),
+        _ => 0,
     }
-}
-
-fn left_after(answer: u8, left: u16) -> u16
-    ensures { result ≡ left_after answer left }
-{
-    if answer != 0 {
-        return 0;
-    }
-    if left == 0 {
-        return 0;
-    }
-    left - 1
 }
 
 // An out buffer, emptied for each entry. The `ensures` gives only its length.
@@ -213,7 +191,9 @@ fn empty() -> [u8; 16384]
     [0; 16384]
 }
 
-// Kinds 0 and 1 are arrivals, 2 and 3 ends, 4 is the setup; what was written stands at the front of the buffers.
+// Kinds are the file's numbers: 0 and 1 are arrivals, 2 and 3 ends, of the direction 0 or 1, and 4 is the setup. An
+// enum would be no plainer: it would carry the direction, which arrive and end take as a number. What was written
+// stands at the front of the buffers.
 fn run_entry(
     session: Session,
     kind: u8,
@@ -224,52 +204,42 @@ fn run_entry(
     requires most { length body.now ≤ 1024 }
     requires server { length to_server.old ≡ out_room }
     requires client { length to_client.old ≡ out_room }
-    ensures result { result ≡ ran_by (run_entry session kind body.now) }
-    ensures server { let o = run_entry session kind body.now in
-        take result.written.server to_server.new ≡ o.to_server }
-    ensures client { let o = run_entry session kind body.now in
-        take result.written.client to_client.new ≡ o.to_client }
+    ensures result { done_in result to_server.new to_client.new ≡ run_entry session kind body.now }
+    ensures server { result.written.server ≤ length to_server.new }
+    ensures client { result.written.client ≤ length to_client.new }
 {
-    if kind >= 4 {
-        return set_up(body);
+    match kind {
+        0 | 1 => ran_of(arrive(session, kind, body, to_server, to_client)),
+        2 | 3 => ran_of(end(session, kind - 2, to_server, to_client)),
+        _ => set_up(body),
     }
-    if kind >= 2 {
-        return ran_of(end(session, kind - 2, to_server, to_client));
-    }
-    ran_of(arrive(session, kind, body, to_server, to_client))
 }
 
 fn ran_of(called: Called) -> EntryRan
     requires { called.taken ≤ 1024 }
     ensures { result ≡ ran_of called }
 {
-    let answer = called.answer;
-    let written = called.written;
-    let session = called.session;
     EntryRan {
         taken: called.taken as u16,
-        answer: number_of(answer),
-        written,
-        session,
+        answer: called.answer,
+        written: called.written,
+        session: called.session,
     }
 }
 
 // The record of a setup, from its octets.
 fn set_up(body: &[u8]) -> EntryRan
-    ensures { result ≡ ran_by (set_up body.now) }
+    ensures { result ≡ setup_kept (prepared_from body.now) }
 {
-    let p = setup_from(body);
-    let answer = p.answer;
-    let session = p.session;
-    let none = Written {
-        server: 0,
-        client: 0,
-    };
+    let prepared = setup_from(body);
     EntryRan {
         taken: 0,
-        answer: number_of(answer),
-        written: none,
-        session,
+        answer: prepared.answer,
+        written: Written {
+            server: 0,
+            client: 0,
+        },
+        session: prepared.session,
     }
 }
 
@@ -279,20 +249,22 @@ fn put_entry(
     out: &mut [u8],
     number: u16,
     taken: u16,
-    answer: u8,
+    answer: Answer,
     to_server: &[u8],
     to_client: &[u8],
 ) -> usize
-    ensures { let text = entry_text number (done_of taken answer to_server.now to_client.now) in
+    ensures { let done = done_of taken (answer_number answer) to_server.now to_client.now in
+        let text = entry_text number done in
         Put out.old 0 text result out.new }
 {
-    if answer == 0 {
-        return put_entry_line(out, 0, number, taken, answer, to_server, to_client);
+    let printed = u8::from(answer);
+    if printed == 0 {
+        return put_entry_line(out, 0, number, taken, printed, to_server, to_client);
     }
     // the 8 octets of STOPPED and its LF have room too
-    if !line_fits(out.len(), 8, number, taken, answer, to_server, to_client) {
+    if !line_fits(out.len(), 8, number, taken, printed, to_server, to_client) {
         return 0;
     }
-    let stop = put_entry_line(out, 0, number, taken, answer, to_server, to_client);
+    let stop = put_entry_line(out, 0, number, taken, printed, to_server, to_client);
     put(out, stop, b"STOPPED\n")
 }

@@ -1,6 +1,6 @@
 -- "The session": the table of answers, over what it looks at in a call and in a record.
 use Rattle.std.specs.Prelude.{Bool, false, ◌&&◌, not, List, ℕ, zero, suc, ◌+◌, ◌-◌, ◌*◌, ◌%◌, ◌^◌, leb, eqb, length}
-use Rattle.std.proofs.Math.Option.{Option, none, some}
+use Rattle.std.specs.Prelude.{Option, None, Some}
 use Rattle.rules.specs.Octets.{choose}
 use Rattle.rules.specs.Lines.{most_held, judged}
 use Rattle.rules.specs.declared.Answer.{Answer}
@@ -58,13 +58,13 @@ sound_record live owed kinds_listed client_held server_held =
 -- "Order: 3, 4, 6": what refuses a call on a direction, if anything does
 unfoldable pub refusal : ℕ → Bool → Bool → Option Answer
 refusal direction sound ended =
-    choose (leb 2 direction) (some UnknownDirection)
-    (choose (not sound) (some BadRecord)
-    (choose ended (some DirectionEnded) none))
+    choose (leb 2 direction) (Some UnknownDirection)
+    (choose (not sound) (Some BadRecord)
+    (choose ended (Some DirectionEnded) None))
 
 -- "then octet by octet 1 before 2": what stops a call before its next octet, if anything does
 unfoldable pub stop : Bool → Bool → Option Answer
-stop full room = choose full (some QueueFull) (choose room none (some NoRoom))
+stop full room = choose full (Some QueueFull) (choose room None (Some NoRoom))
 
 -- the octets of the longest own answer, and of a whole queue of them
 abbrev pub longest_answer : ℕ

@@ -1,7 +1,7 @@
 -- "To the client: the history is read item by item", through the Telnet layer of request 2 of document 02: what each item writes to
 -- each side. What goes to the client is the join of it; of what goes to the server, "Pieces" says which of it was spoken.
 use Rattle.std.specs.Prelude.{List, [], ◌∷◌, ◌++◌, ℕ, eqb}
-use Rattle.std.proofs.Math.Option.{Option, none, some}
+use Rattle.std.specs.Prelude.{Option, None, Some}
 use Rattle.rules.specs.Octets.{lf, choose}
 use Rattle.rules.specs.Answers.{Side, client, server}
 use Rattle.rules.specs.Setup.{setup_switches}
@@ -70,8 +70,8 @@ pub record ClientRead (S : Type 0) : Type 0 where
 
 -- by the octet of a line that it makes; "WILL is answered to its sender", "pass at once as a command, ahead of a held line"
 unfoldable pub client_read : (rules : LineRules) → ClientState rules.LineState → Does → Option ℕ → ClientRead rules.LineState
-client_read rules c does none = record { state = c; owes = []; to_server = command_of does; to_client = answer_of does }
-client_read rules c does (some y) =
+client_read rules c does None = record { state = c; owes = []; to_server = command_of does; to_client = answer_of does }
+client_read rules c does (Some y) =
     let j = client_octet rules c.line_state c.place y in
     record { state = j.state; owes = j.owes; to_server = client_gives rules c.line_state c.place y; to_client = [] }
 
@@ -79,8 +79,8 @@ client_read rules c does (some y) =
 
 -- the server's state after its octet, and what it gives to the client
 unfoldable pub server_read : LineRules → ServerState → Does → Option ℕ → ServerStep
-server_read rules s does none = record { state = s; gives = command_of does }
-server_read rules s does (some y) = server_octet rules s.place s.owed s.opening y
+server_read rules s does None = record { state = s; gives = command_of does }
+server_read rules s does (Some y) = server_octet rules s.place s.owed s.opening y
 
 -- "or until its direction passes at once": the AUTH step leaves nothing of a server's command
 abbrev pub layer_then : ServerStep → Layer → Layer

@@ -1,6 +1,6 @@
 -- Octets, words and numbers: what the pages after this one are written with.
 use Rattle.std.specs.Prelude.{Bool, true, false, ◌&&◌, not, List, [], ◌∷◌, ◌++◌, map, ℕ, zero, suc, ◌+◌, ◌-◌, ◌*◌, ◌/◌, ◌%◌, leb, ltb, eqb, length, take, drop}
-use Rattle.std.proofs.Math.Option.{Option, none, some}
+use Rattle.std.specs.Prelude.{Option, None, Some}
 use Prim.Native.Char.{code}
 use Prim.Native.String as S
 use Prim.Native.String.{String}
@@ -142,7 +142,7 @@ value xs = value_from 0 xs
 -- a text of 1 to n digits whose value is lo to hi
 unfoldable pub number : ℕ → ℕ → ℕ → List ℕ → Option ℕ
 number n lo hi xs =
-    choose (within 1 n (length xs) && every digit xs && within lo hi (value xs)) (some (value xs)) none
+    choose (within 1 n (length xs) && every digit xs && within lo hi (value xs)) (Some (value xs)) None
 
 -- "numbers in them are decimal without leading zeros"; the first argument only bounds the recursion
 unfoldable pub decimal_by : ℕ → ℕ → List ℕ

@@ -1,7 +1,7 @@
 -- Demand 3's to-server half "now speaks of the output without these answers and without passed Telnet commands, each told apart by the
 -- octet or end that wrote it, never by its look": which part of each item's output is spoken.
 use Rattle.std.specs.Prelude.{List, [], ◌∷◌, ◌++◌, ℕ, zero, suc, ◌-◌, length, take}
-use Rattle.std.proofs.Math.Option.{Option, none, some}
+use Rattle.std.specs.Prelude.{Option, None, Some}
 use Rattle.rules.specs.Answers.{client, server}
 use Rattle.rules.specs.Setup.{setup_switches}
 use Rattle.rules.specs.declared.Setup.{Setup}
@@ -21,8 +21,8 @@ pub data Role : Type 0 where
 
 -- a client octet speaks if it makes an octet of a line, or comes after AUTH; any other writes a command, or nothing
 abbrev pub octet_role : Option ℕ → Role
-octet_role none = telnet
-octet_role (some y) = speech
+octet_role None = telnet
+octet_role (Some y) = speech
 
 -- the client's end: what has come of a command is none of it where AUTH is still to come
 abbrev pub end_role : ℕ → Telnet → Role

@@ -1,7 +1,7 @@
 -- "Server lines", as requests 1 and 4 of document 02 leave them: which lines open, belong to and end a reply; the 227 reader, the
 -- lines that the gateway writes, and the queue.
 use Rattle.std.specs.Prelude.{Bool, true, false, not, ◌&&◌, ◌||◌, List, [], ◌∷◌, ◌++◌, ℕ, zero, suc, ◌+◌, ◌-◌, ◌*◌, eqb, length, get_or, take, drop}
-use Rattle.std.proofs.Math.Option.{Option, none, some}
+use Rattle.std.specs.Prelude.{Option, None, Some}
 use Rattle.rules.specs.Octets.{oct, space, hyphen, comma, choose, within, equal, digit, not_digit, front, after, decimal}
 use Rattle.rules.specs.Address.{both, octet_number}
 use Rattle.rules.specs.Lines.{unchanged, content}
@@ -61,7 +61,7 @@ opening_after opening StandsAlone = 0
 
 -- more numbers, where a comma stands
 unfoldable pub after_comma : List ℕ → Option (List ℕ) → Option (List ℕ)
-after_comma t more = choose (eqb (get_or t 0 0) comma) more none
+after_comma t more = choose (eqb (get_or t 0 0) comma) more None
 
 -- one number and k more: "each a whole run of 1 to 3 digits, 0 to 255, single commas between; what follows the sixth run is not looked at"
 unfoldable pub numbers : ℕ → List ℕ → Option (List ℕ)
@@ -69,17 +69,17 @@ numbers zero t = octet_number (front digit t)
 numbers (suc k) t = let u = after digit t in both (octet_number (front digit t)) (after_comma u (numbers k (drop 1 u)))
 
 -- the first four numbers are an address; "The port is the fifth times 256 plus the sixth; if not 0"
-unfoldable pub passive_at : Option (List ℕ) → PassiveReply
-passive_at none = PassiveReply.Unreadable
-passive_at (some ns) =
+unfoldable pub passive_at : Option (List ℕ) → Option PassiveReply
+passive_at None = None
+passive_at (Some ns) =
     let p = get_or ns 4 0 * 256 + get_or ns 5 0 in
-    choose (eqb p 0) PassiveReply.Unreadable
-    (PassiveReply.At (get_or ns 0 0) (get_or ns 1 0) (get_or ns 2 0) (get_or ns 3 0) p)
+    choose (eqb p 0) None
+    (Some (record { address = get_or ns 0 0 ∷ get_or ns 1 0 ∷ get_or ns 2 0 ∷ get_or ns 3 0 ∷ []; port = p }))
 
 -- "the code is 227"; "read six numbers from the first digit after the code's space"
-unfoldable pub passive_reply : List ℕ → PassiveReply
+unfoldable pub passive_reply : List ℕ → Option PassiveReply
 passive_reply c =
-    choose (equal (take 4 c) (oct "227 ")) (passive_at (numbers 5 (after not_digit (drop 4 c)))) PassiveReply.Unreadable
+    choose (equal (take 4 c) (oct "227 ")) (passive_at (numbers 5 (after not_digit (drop 4 c)))) None
 
 -- ---- the lines that the gateway writes to the client
 
@@ -111,10 +111,9 @@ unfoldable pub foreign : Fixed → List ℕ → Bool
 foreign f address = f.strict && not (equal address f.server)
 
 -- "if not 0 the line becomes `229 ..`. Otherwise it passes"; request 4: "gives the client `425 ..` instead of the 229"
-unfoldable pub passive_gives : Fixed → List ℕ → PassiveReply → List ℕ
-passive_gives f l PassiveReply.Unreadable = unchanged l
-passive_gives f l (PassiveReply.At a b c d p) =
-    choose (foreign f (a ∷ b ∷ c ∷ d ∷ [])) cannot_open_line (extended_passive_line p)
+unfoldable pub passive_gives : Fixed → List ℕ → Option PassiveReply → List ℕ
+passive_gives f l None = unchanged l
+passive_gives f l (Some reply) = choose (foreign f reply.address) cannot_open_line (extended_passive_line reply.port)
 
 -- what it becomes by the first kind owed, if it is judged whole and no earlier line belongs to its reply
 unfoldable pub final_gives : Fixed → Kind → List ℕ → List ℕ

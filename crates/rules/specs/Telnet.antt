@@ -2,7 +2,7 @@
 -- taken out. What a line's octets give where they leave is `Lines.passed`, what is let go at an end and for AUTH `ToClient.let_go`,
 -- an item of the history through its layer `Items.item_step`, and which part of the output is spoken stands in `Pieces`.
 use Rattle.std.specs.Prelude.{Bool, true, false, List, [], ◌∷◌, ◌++◌, ℕ, zero, suc, ◌+◌, eqb}
-use Rattle.std.proofs.Math.Option.{Option, none, some}
+use Rattle.std.specs.Prelude.{Option, None, Some}
 use Rattle.rules.specs.Octets.{iac, choose}
 use Rattle.rules.specs.Answers.{wrapped}
 use Rattle.rules.specs.declared.Telnet.{Telnet}
@@ -68,12 +68,12 @@ telnet_octet WithinIac x = to (choose (eqb x se) Clear Within) (Removes 1)
 
 -- the octet of a line that an octet makes, if it makes one
 abbrev pub data_of : Does → Option ℕ
-data_of (Data y) = some y
-data_of Nothing = none
-data_of (AnswersDont x) = none
-data_of (AnswersWont x) = none
-data_of (Passes x) = none
-data_of (Removes n) = none
+data_of (Data y) = Some y
+data_of Nothing = None
+data_of (AnswersDont x) = None
+data_of (AnswersWont x) = None
+data_of (Passes x) = None
+data_of (Removes n) = None
 
 -- what goes back to its sender
 abbrev pub answer_of : Does → List ℕ
@@ -158,8 +158,8 @@ layer_octet false l x = record { layer = l; does = Data x }
 
 -- an octet that makes one of a line, before others
 abbrev pub onto_data : Option ℕ → List ℕ → List ℕ
-onto_data none d = d
-onto_data (some y) d = y ∷ d
+onto_data None d = d
+onto_data (Some y) d = y ∷ d
 
 -- a text with the layer taken out: the octets of its lines
 unfoldable pub data_octets : Telnet → List ℕ → List ℕ
@@ -175,8 +175,8 @@ pub record UpTo : Type 0 where
 
 -- one more than n data octets were to come: how many are after an octet
 abbrev pub to_come : Option ℕ → ℕ → ℕ
-to_come none n = suc n
-to_come (some y) n = n
+to_come None n = suc n
+to_come (Some y) n = n
 
 -- with n data octets to come
 unfoldable pub up_to : ℕ → Telnet → ℕ → UpTo

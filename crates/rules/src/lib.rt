@@ -100,13 +100,6 @@ pub enum EpsvArgument {
     Other,
 }
 
-// The port of an EPRT argument that names the client's own address.
-#[derive(Clone, Copy)]
-pub enum EprtArgument {
-    Port(u16),
-    Other,
-}
-
 // The argument of ALGS: one of its three, or another.
 #[derive(Clone, Copy)]
 pub enum AlgsArgument {
@@ -194,24 +187,26 @@ pub struct TelnetStep {
     pub does: Does,
 }
 
-// What a 227 line names: the four octets of an address, and a port.
+// What a 227 line names.
 #[derive(Clone, Copy)]
-pub enum PassiveReply {
-    At(u8, u8, u8, u8, u16),
-    Unreadable,
+pub struct PassiveReply {
+    pub address: [u8; IPV4],
+    pub port: u16,
 }
 
 // The number of an answer, for hosts and reports, which tell numbers.
-pub fn number_of(answer: Answer) -> u8
-    ensures { result ≡ answer_number answer }
-{
-    match answer {
-        Answer::Done => 0,
-        Answer::QueueFull => 1,
-        Answer::NoRoom => 2,
-        Answer::UnknownDirection => 3,
-        Answer::BadRecord => 4,
-        Answer::BadSetup => 5,
-        Answer::DirectionEnded => 6,
+impl From<Answer> for u8 {
+    ghost from_gives = { λ answer number. number ≡ answer_number answer };
+
+    fn from(answer: Answer) -> u8 {
+        match answer {
+            Answer::Done => 0,
+            Answer::QueueFull => 1,
+            Answer::NoRoom => 2,
+            Answer::UnknownDirection => 3,
+            Answer::BadRecord => 4,
+            Answer::BadSetup => 5,
+            Answer::DirectionEnded => 6,
+        }
     }
 }

@@ -6,7 +6,7 @@ use Prim.Native.Nat.{ℕ, ◌+◌, ◌-◌, ◌<◌, ◌≤◌}
 use native.Mathlib.Numerals.{add-one}
 use native.Mathlib.Omega.{arith}
 use lib.ListN.{length, get_or, take, drop}
-use lib.Seq.{take_all, take-suc, drop-drop}
+use lib.Seq.{take-suc, drop-drop}
 use Rattle.rules.specs.Octets.{lf, iac, choose, run, every, is, is_not}
 use Rattle.rules.specs.Lines.{is_ordinary}
 use Rattle.octets.proofs.Ranges.{and_both}
@@ -36,10 +36,6 @@ module _ (p : ℕ → Bool) (s : List ℕ) where
   stops-more j found here h e q =
       let cut : take (j + 1) s ≡ take j s ++ (get_or s j 0 ∷ []) = ap (λ (n : ℕ). take n s) (add-one j) ∙ take-suc s j 0 h in
       rw (cut, every-snoc p (take j s) (get_or s j 0), e, q) (de-morgan (every p (take j s)) here)
-
-  -- and at its end
-  pub stops-all : (j : ℕ) (found : Bool) → found ≡ not (every p (take j s)) → length s ≤ j → found ≡ not (every p s)
-  stops-all j found q h = q ∙ ap (λ (l : List ℕ). not (every p l)) (take_all j s h)
 
 -- a block in which nothing stops the search
 pub block-free : (stops passes : Bool) → stops ≡ not passes → stops ≡ false → passes ≡ true

@@ -26,12 +26,9 @@ fn has(block: &[u8]) -> bool
 {
     let mut lf = false;
     let mut iac = false;
-    let mut j = 0;
-    while j < block.len() {
-        let b = block[j];
-        lf = lf | (b == LF);
-        iac = iac | (b == IAC);
-        j += 1;
+    for b in block {
+        lf |= *b == LF;
+        iac |= *b == IAC;
     }
     lf | iac
 }
@@ -43,15 +40,9 @@ fn skip(octets: &[u8], from: usize, size: usize) -> usize
         result + run is_ordinary (drop result s) ≡ from + run is_ordinary (drop from s) }
 {
     let mut at = from;
-    while at < octets.len() {
-        if octets.len() - at < size {
-            return at;
-        }
-        let e = at + size;
-        if has(&octets[at..e]) {
-            return at;
-        }
-        at = e;
+    // It goes on by whole blocks; `saturating_sub` in place of the first two tests is slower.
+    while at < octets.len() && size <= octets.len() - at && !has(&octets[at..at + size]) {
+        at += size;
     }
     at
 }
@@ -74,15 +65,7 @@ fn skip_blocks(octets: &[u8], from: usize) -> usize
 pub fn ordinary_end(octets: &[u8], from: usize) -> usize
     ensures { result ≡ from + run is_ordinary (drop from octets.now) }
 {
-    let mut i = skip_blocks(octets, from);
-    while i < octets.len() {
-        let x = octets[i];
-        if (x == LF) | (x == IAC) {
-            return i;
-        }
-        i += 1;
-    }
-    i
+    octets::run_end(octets, skip_blocks(octets, from), is_ordinary)
 }
 
 // Where the first 255 stands, in the same way: the LFs before it are gone over. A line has none, so that one search
@@ -91,10 +74,8 @@ pub fn find_iac(octets: &[u8], from: usize) -> usize
     ensures { result ≡ from + run (is_not iac) (drop from octets.now) }
 {
     let mut i = ordinary_end(octets, from);
-    while i < octets.len() {
-        if octets[i] == IAC {
-            return i;
-        }
+    // It jumps from one LF to the next.
+    while i < octets.len() && octets[i] != IAC {
         i = ordinary_end(octets, i + 1);
     }
     i

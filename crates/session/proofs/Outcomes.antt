@@ -1,8 +1,9 @@
 -- What a call promises, from what its parts promise.
+use Rattle.std.specs.Prelude.{Some}
 use mathlib.Core.Path.{◌≡◌, refl, sym, ap, ◌∙◌}
 use mathlib.Core.Bool.{Bool, true, false, and-true}
 use mathlib.Core.List.{List, ◌++◌}
-use mathlib.Core.Option.{Option, none}
+use Rattle.std.specs.Prelude.{Option, None}
 use Prim.Native.Nat.{ℕ, ◌+◌, ◌*◌, ◌≤◌, ◌<◌}
 use lib.Dec.{leb, leb-zero}
 use lib.ListN.{length, drop, length-append, length-take}
@@ -15,15 +16,13 @@ use Rattle.session.specs.declared.Called.{Called}
 use Rattle.records.specs.declared.Counts.{Counts}
 use Rattle.records.specs.declared.Session.{Session}
 use Rattle.steps.specs.declared.Written.{Written}
-use Rattle.records.specs.declared.Refusal.{Refusal}
 use Rattle.output.specs.Buffer.{put_at}
 use Rattle.steps.specs.Steps.{State, held_of, let_go_of}
 use Rattle.steps.specs.Takes.{Took, takes, Core, core_from, core_took}
 use Rattle.session.specs.Calls.{Outcome, state_of, session_after, refused, unless_refused, outcome, arrived, goes_to, end_step, end_outcome, held_end, buffer_after, end_called}
-use Rattle.records.specs.Sound.{refusal_of, refusal_by}
+use Rattle.records.specs.Sound.{refusal_of}
 use Rattle.records.specs.Controls.{unfinished_of}
 use Rattle.records.proofs.Sides.{not-zero}
-use Rattle.records.proofs.Refusals.{by_answer}
 use Rattle.octets.proofs.Passed.{passed-most}
 use Rattle.output.proofs.Placing.{Wrote, after-fits, joined}
 use Rattle.output.proofs.Front.{front-put}
@@ -59,15 +58,15 @@ promised-refused : (s : Session) (a : Answer) (out other : List ℕ) {r : Called
 unfolding refused
 promised-refused s a out other e = (e, (refl, refl))
 
-pub turned-away : (s : Session) (o : Option Answer) (w : Outcome) (a : Answer) (out other : List ℕ) {q : Refusal} {r : Called} → q ≡ refusal_by o
-    → q ≡ Refusal.By a → r ≡ (refused a s).called → Promised (unless_refused o s w) r out other out other
+pub turned-away : (s : Session) (o : Option Answer) (w : Outcome) (a : Answer) (out other : List ℕ) {q : Option Answer} {r : Called} → q ≡ o
+    → q ≡ Some a → r ≡ (refused a s).called → Promised (unless_refused o s w) r out other out other
 unfolding unless_refused
-turned-away s o w a out other p q e = rw (by_answer o a (sym p ∙ q)) (promised-refused s a out other e)
+turned-away s o w a out other p q e = rw (sym p ∙ q) (promised-refused s a out other e)
 
 -- ---- an arrival
 
 -- side is the direction's, which does not refuse
-module _ (s : Session) (d : ℕ) (octets out other : List ℕ) (side : Side) (same : side ≡ side_of d) (free : refusal_of s d ≡ none) where
+module _ (s : Session) (d : ℕ) (octets out other : List ℕ) (side : Side) (same : side ≡ side_of d) (free : refusal_of s d ≡ None) where
   abbrev pub taking : Took
   taking = takes s.fixed side (state_of s) octets (length out) (length other)
 
@@ -165,7 +164,7 @@ untouched s true buffer = (refl, refl)
 untouched s false buffer = (refl, refl)
 
 -- an end by its direction's number looks at the one buffer that its side's octets go to
-module _ (s : Session) (d : ℕ) (out other : List ℕ) (free : refusal_of s d ≡ none) where
+module _ (s : Session) (d : ℕ) (out other : List ℕ) (free : refusal_of s d ≡ None) where
   pub client-ends : d ≡ 0 → end_called s d (length out) (length other) ≡ held_end s client (length out)
   unfolding end_called unless_refused held_end end_step fits
   client-ends z = rw (free, z, leb-zero (length other), and-true (leb (length (let_go_of client (state_of s))) (length out)))

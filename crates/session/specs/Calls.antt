@@ -1,6 +1,6 @@
 -- What an arrival and an end answer, take, write and leave in the record.
 use Rattle.std.specs.Prelude.{Bool, true, false, List, [], ◌++◌, ℕ, leb, length, drop}
-use Rattle.std.proofs.Math.Option.{Option, none, some}
+use Rattle.std.specs.Prelude.{Option, None, Some}
 use Rattle.rules.specs.Answers.{Side, client, server, side_of, fits}
 use Rattle.rules.specs.declared.Answer.{Answer}
 use Rattle.records.specs.Controls.{with_ended}
@@ -49,8 +49,8 @@ refused a s =
 
 -- a call, unless something refuses it
 unfoldable pub unless_refused : Option Answer → Session → Outcome → Outcome
-unless_refused none s r = r
-unless_refused (some a) s r = refused a s
+unless_refused None s r = r
+unless_refused (Some a) s r = refused a s
 
 -- what a call returns for what it took
 unfoldable pub outcome : Session → Side → Took → Outcome

@@ -14,11 +14,10 @@ ghost use Rattle.steps.specs.Takes.{state_from};
 use arrivals::take;
 use counts::{counts_then, written_from};
 use gives::{passed_length, put_passed};
-use output::{line_from, put};
+use output::{array_from, put};
 use places::first_octets;
-use queue::kinds_from;
 use records::layout::{LENT_COMMAND, LENT_KINDS, LENT_MAPPED, LENT_REPLY, LENT_SERVER, LENT_SIZE};
-use records::{Control, Refusal, Session, refusal_of, unfinished_of, with_ended};
+use records::{Control, Session, refusal_of, unfinished_of, with_ended};
 use rules::{Answer, IPV4, IPV6, Kinds, Line};
 use steps::Written;
 use telnet::{put_unfinished, unfinished_length};
@@ -50,7 +49,7 @@ pub fn arrive(
         (to_server.new ≡ buffer_after client_side o server)
         × (to_client.new ≡ buffer_after server_side o client) }
 {
-    if let Refusal::By(answer) = refusal_of(session, direction) {
+    if let Some(answer) = refusal_of(session, direction) {
         return refused(answer, session);
     }
     let from_client = direction == 0;
@@ -73,9 +72,9 @@ pub fn arrive(
         to_server,
         to_client,
     );
-    let left = kinds_from(&lent[LENT_KINDS..LENT_COMMAND]);
-    let command = line_from(&lent[LENT_COMMAND..LENT_REPLY]);
-    let reply = line_from(&lent[LENT_REPLY..]);
+    let left = array_from(&lent[LENT_KINDS..LENT_COMMAND]);
+    let command = array_from(&lent[LENT_COMMAND..LENT_REPLY]);
+    let reply = array_from(&lent[LENT_REPLY..]);
     let then = t.control;
     let written = t.written;
     let answer = t.answer;
@@ -179,7 +178,7 @@ pub fn end(session: Session, direction: u8, to_server: &mut [u8], to_client: &mu
         (to_server.new ≡ buffer_after client_side o server)
         × (to_client.new ≡ buffer_after server_side o client) }
 {
-    if let Refusal::By(answer) = refusal_of(session, direction) {
+    if let Some(answer) = refusal_of(session, direction) {
         return refused(answer, session);
     }
     if direction == 0 {

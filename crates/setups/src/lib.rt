@@ -4,12 +4,13 @@
 ghost use Rattle.std.specs.Prelude.{◌≡◌};
 ghost use Rattle.setups.specs.Setups.{prepared, start_session, start_control, refused_setup, prepared_from};
 
-use output::{ipv4_from, ipv6_from};
+use output::array_from;
 use places::{Direction, Place};
 use records::{Control, Counts, Session};
 use rules::{Answer, Fixed, HELD, IPV4, IPV6, Layer, OWED, SETUP, Setup, Switches, Telnet};
 
-// What setup returns.
+// What setup returns. A setup that is refused has a record too, which a host in C is left with (`fashlemor_setup`), so
+// this is no `Result`.
 #[derive(Clone, Copy)]
 pub struct Prepared {
     pub answer: Answer,
@@ -54,9 +55,9 @@ pub fn setup_from(octets: &[u8]) -> Prepared
     if octets.len() != SETUP {
         return refused_setup();
     }
-    let client = ipv6_from(&octets[..IPV6]);
-    let mapped = ipv4_from(&octets[IPV6..IPV6 + IPV4]);
-    let server = ipv4_from(&octets[IPV6 + IPV4 + 1..SETUP]);
+    let client = array_from(&octets[..IPV6]);
+    let mapped = array_from(&octets[IPV6..IPV6 + IPV4]);
+    let server = array_from(&octets[IPV6 + IPV4 + 1..SETUP]);
     setup(Setup {
         client,
         mapped,

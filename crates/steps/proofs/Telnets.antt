@@ -1,6 +1,7 @@
 -- An octet that makes none of a line, and an octet through the Telnet layer: whether its step fits, and what is there after it.
 use mathlib.Core.Path.{◌≡◌, refl, sym, ap, subst, ◌∙◌}
 use mathlib.Core.Bool.{Bool, true, false, not}
+use Rattle.std.specs.Prelude.{Option, None, Some, is_some, unwrap_or}
 use mathlib.Core.List.{List, [], ◌++◌}
 use Prim.Native.Nat.{ℕ, ◌+◌, ◌-◌, ◌*◌, ◌<◌, ◌≤◌}
 use native.Mathlib.Omega.{arith}
@@ -12,7 +13,7 @@ use Rattle.rules.specs.declared.Layer.{Layer}
 use Rattle.rules.specs.declared.Fixed.{Fixed}
 use Rattle.rules.specs.Lines.{most_held, passed}
 use Rattle.rules.specs.declared.Does.{Does}
-use Rattle.octets.proofs.Choices.{either, choose-true, choose-false}
+use Rattle.octets.proofs.Choices.{either}
 use Rattle.output.specs.Buffer.{put_at, position_after}
 use Rattle.output.proofs.Placing.{length-put, put-after, after-fits}
 use Rattle.records.specs.declared.Control.{Control}
@@ -126,54 +127,38 @@ module _ (from : Bool) (does : Does) (c : Control) (command reply kinds : List �
 -- ---- through the layer
 
 -- a step leaves what it leaves whatever layer the state before it has; where it does not fit, that state stays
-module _ (t : Step) (c c₁ : Control) (line reply kinds sb cb : List ℕ) (w : Written) (o r : Octet) (line' reply' sb' cb' : List ℕ) where
+module _ (t : Step) (c c₁ : Control) (line reply kinds sb cb : List ℕ) (w : Written) (line' reply' sb' cb' : List ℕ) where
   abbrev before : Core
   before = core_from (state_from c line reply kinds) sb cb w
 
   abbrev layered_before : Core
   layered_before = core_from (state_from c₁ line reply kinds) sb cb w
 
-  abbrev left : Octet → Core
-  left q = core_from (state_from q.control line' reply' q.kinds) sb' cb' q.written
+  -- what an octet leaves, which may be nothing behind such a control
+  abbrev left : Option Octet → Control → Core
+  left o control =
+      let q = unwrap_or o (record { control = control; kinds = kinds; written = w }) in
+      core_from (state_from q.control line' reply' q.kinds) sb' cb' q.written
 
-  same-fits : step_fits t layered_before ≡ step_fits t before
-  unfolding step_fits
-  same-fits = refl
-
-  fitted : SteppedBy t layered_before o.fits (left o) → o.fits ≡ true → SteppedBy t before o.fits (left o)
-  unfolding core_after
-  fitted stepped b =
-      let fit : step_fits t layered_before ≡ true = sym stepped.fits ∙ b in
+  pub through-layer : (o : Option Octet) → Bounded c w sb cb → SteppedBy t layered_before (is_some o) (left o c₁)
+      → SteppedBy t before (is_some o) (left o c)
+  unfolding step_fits core_after
+  through-layer (Some o) bounded stepped =
+      let fit : step_fits t before ≡ true = sym stepped.fits in
       record {
-        fits = stepped.fits ∙ same-fits;
-        core = stepped.core ∙ ap (core_after t layered_before) fit ∙ ap (core_after t before) (sym (sym same-fits ∙ fit));
+        fits = stepped.fits;
+        core = stepped.core ∙ ap (core_after t layered_before) fit ∙ ap (core_after t before) (sym fit);
         bounded = stepped.bounded;
       }
-
-  unfitted : SteppedBy t layered_before o.fits (left o) → o.fits ≡ false → Bounded c w sb cb
-      → SteppedBy t before false (left (record { fits = false; control = c; kinds = o.kinds; written = o.written }))
-  unfolding core_after
-  unfitted stepped b bounded =
-      let fit : step_fits t layered_before ≡ false = sym stepped.fits ∙ b in
-      let same : left o ≡ layered_before = stepped.core ∙ ap (core_after t layered_before) fit in
+  through-layer None bounded stepped =
+      let fit : step_fits t before ≡ false = sym stepped.fits in
+      let same : left None c₁ ≡ layered_before = stepped.core ∙ ap (core_after t layered_before) fit in
       record {
-        fits = sym (sym same-fits ∙ fit);
-        core = (λ i. core_from (state_from c (same i).state.command (same i).state.reply (same i).state.kinds) (same i).server_buffer (same i).client_buffer (same i).written)
-            ∙ ap (core_after t before) (sym (sym same-fits ∙ fit));
-        bounded = subst (λ (k : Core). Bounded c k.written k.server_buffer k.client_buffer) (sym same) bounded;
+        fits = stepped.fits;
+        core = (λ i. core_from (state_from c (same i).state.command (same i).state.reply kinds) (same i).server_buffer (same i).client_buffer w)
+            ∙ ap (core_after t before) (sym fit);
+        bounded = subst (λ (k : Core). Bounded c w k.server_buffer k.client_buffer) (sym same) bounded;
       }
-
-  by-fit : (b : Bool) → o.fits ≡ b
-      → r ≡ choose o.fits o (record { fits = false; control = c; kinds = o.kinds; written = o.written })
-      → Bounded c w sb cb → SteppedBy t layered_before o.fits (left o) → SteppedBy t before r.fits (left r)
-  by-fit true b e bounded stepped =
-      subst (λ (q : Octet). SteppedBy t before q.fits (left q)) (sym (e ∙ choose-true o _ b)) (fitted stepped b)
-  by-fit false b e bounded stepped =
-      subst (λ (q : Octet). SteppedBy t before q.fits (left q)) (sym (e ∙ choose-false o _ b)) (unfitted stepped b bounded)
-
-  pub through-layer : r ≡ choose o.fits o (record { fits = false; control = c; kinds = o.kinds; written = o.written })
-      → Bounded c w sb cb → SteppedBy t layered_before o.fits (left o) → SteppedBy t before r.fits (left r)
-  through-layer = by-fit o.fits refl
 
 -- what the code reads of the layer
 module _ (d : Side) (s : State) (x : ℕ) where

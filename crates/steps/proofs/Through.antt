@@ -1,7 +1,7 @@
 -- An octet that the Telnet layer hands on as it came is an octet of a line.
 use mathlib.Core.Path.{◌≡◌, refl, sym, ap, subst, ◌∙◌}
 use mathlib.Core.Bool.{Bool, true, false}
-use mathlib.Core.Option.{some}
+use Rattle.std.specs.Prelude.{Some}
 use Prim.Native.Nat.{ℕ}
 use lib.Dec.{eqb}
 use Rattle.rules.specs.Octets.{iac, choose}
@@ -40,7 +40,7 @@ unfolding layer_octet
 past-lines b l x e = rw e
 
 module _ (f : Fixed) (s : State) (x : ℕ) where
-  same-layer : (d : Side) → step_by f d (layered d s (layer_in d s.control)) (Does.Data x) (some x) ≡ line_step f d s x
+  same-layer : (d : Side) → step_by f d (layered d s (layer_in d s.control)) (Does.Data x) (Some x) ≡ line_step f d s x
   unfolding step_by
   same-layer client = refl
   same-layer server = refl

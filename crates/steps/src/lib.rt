@@ -1,7 +1,7 @@
 // One octet of a direction, over what is lent of a record.
 #![tactic(auto)]
 
-ghost use Rattle.std.specs.Prelude.{◌≡◌, false, length};
+ghost use Rattle.std.specs.Prelude.{◌≡◌, false, length, is_some, unwrap_or};
 ghost use borrow.Rule.Slice.PartMut.{put_mid};
 ghost use Rattle.rules.specs.Answers.{is_queue_full, most_owed};
 ghost use Rattle.records.specs.Layout.{lent_kinds, lent_size};
@@ -12,8 +12,7 @@ ghost use Rattle.steps.specs.Takes.{took_next};
 ghost use Rattle.steps.specs.Core.{Bounded, Stepped};
 
 use octet::any_octet;
-use output::{ipv4_from, ipv6_from, put};
-use queue::kinds_from;
+use output::{array_from, put};
 use records::layout::{LENT_COMMAND, LENT_KINDS, LENT_MAPPED, LENT_SERVER, LENT_SIZE};
 use records::{Control, holdable, queue_full};
 use rules::{Answer, Fixed, Kinds};
@@ -36,10 +35,10 @@ pub struct Next {
     pub written: Written,
 }
 
-// Whether an octet's output fits; and the control and the counts after it, as they were where it does not fit.
+// The control and the counts after an octet whose output fits. Where it does not fit there is `None`, and all is as it
+// was.
 #[derive(Clone, Copy)]
 struct Fitted {
-    fits: bool,
     control: Control,
     written: Written,
 }
@@ -49,9 +48,9 @@ fn fixed_in(supported: bool, strict: bool, lent: &[u8]) -> Fixed
     requires { length lent.now ≡ lent_size }
     ensures { result ≡ fixed_lent supported strict lent.now }
 {
-    let client = ipv6_from(&lent[..LENT_MAPPED]);
-    let mapped = ipv4_from(&lent[LENT_MAPPED..LENT_SERVER]);
-    let server = ipv4_from(&lent[LENT_SERVER..LENT_KINDS]);
+    let client = array_from(&lent[..LENT_MAPPED]);
+    let mapped = array_from(&lent[LENT_MAPPED..LENT_SERVER]);
+    let server = array_from(&lent[LENT_SERVER..LENT_KINDS]);
     Fixed {
         client,
         mapped,
@@ -65,7 +64,7 @@ fn kinds_in(lent: &[u8]) -> Kinds
     requires { length lent.now ≡ lent_size }
     ensures { result ≡ kinds_lent lent.now }
 {
-    kinds_from(&lent[LENT_KINDS..LENT_COMMAND])
+    array_from(&lent[LENT_KINDS..LENT_COMMAND])
 }
 
 fn put_kinds(lent: &mut [u8], kinds: Kinds)
@@ -79,16 +78,10 @@ fn put_kinds(lent: &mut [u8], kinds: Kinds)
 fn within(control: Control, lent: usize, server: usize, client: usize, written: Written) -> bool
     ensures { result ≡ is_within control lent server client written }
 {
-    if !holdable(control) {
+    if !holdable(control) || lent != LENT_SIZE {
         return false;
     }
-    if lent != LENT_SIZE {
-        return false;
-    }
-    if server < written.server {
-        return false;
-    }
-    written.client <= client
+    written.server <= server && written.client <= client
 }
 
 // An octet of a direction: its output goes behind what is written already. From counts and positions that
@@ -126,7 +119,7 @@ pub fn next_octet(
     if queue_full(from_client, control) {
         return answered(Answer::QueueFull, control, written);
     }
-    let o = lent_octet(
+    let Some(o) = lent_octet(
         supported,
         strict,
         from_client,
@@ -136,13 +129,10 @@ pub fn next_octet(
         to_server,
         to_client,
         written,
-    );
-    let then = o.control;
-    let given = o.written;
-    if !o.fits {
-        return answered(Answer::NoRoom, then, given);
-    }
-    answered(Answer::Done, then, given)
+    ) else {
+        return answered(Answer::NoRoom, control, written);
+    };
+    answered(Answer::Done, o.control, o.written)
 }
 
 fn answered(answer: Answer, control: Control, written: Written) -> Next
@@ -166,15 +156,15 @@ fn lent_octet(
     to_server: &mut [u8],
     to_client: &mut [u8],
     written: Written,
-) -> Fitted
+) -> Option<Fitted>
     requires bounds { Bounded control written to_server.old to_client.old }
     requires lengths { length lent.old ≡ lent_size }
     requires queue { is_queue_full (side_if from_client) (is_passing control.client.place) control.owed
         ≡ false }
     ensures stepped { let k = core_lent control lent.old to_server.old to_client.old written in
-        let m = core_lent result.control lent.new to_server.new to_client.new
-        result.written in
-        Stepped (fixed_lent supported strict lent.old) (side_if from_client) x k result.fits m }
+        let o = unwrap_or result (record { control = control; written = written }) in
+        let m = core_lent o.control lent.new to_server.new to_client.new o.written in
+        Stepped (fixed_lent supported strict lent.old) (side_if from_client) x k (is_some result) m }
     ensures fixed { addresses_lent lent.new ≡ addresses_lent lent.old }
 {
     let fixed = fixed_in(supported, strict, lent);
@@ -189,14 +179,10 @@ fn lent_octet(
         to_server,
         to_client,
         written,
-    );
-    let left = o.kinds;
-    put_kinds(lent, left);
-    let then = o.control;
-    let given = o.written;
-    Fitted {
-        fits: o.fits,
-        control: then,
-        written: given,
-    }
+    )?;
+    put_kinds(lent, o.kinds);
+    Some(Fitted {
+        control: o.control,
+        written: o.written,
+    })
 }

@@ -1,12 +1,12 @@
 -- The Telnet layer by cases: what an octet is, the state before it, and what it does.
-use Rattle.std.proofs.Common.{◌≡◌, ℕ, ◌+◌, ◌%◌, ◌^◌, Bool, true, false, eqb, sym, refl, ap, ◌∙◌, true≢false, eq-eqb, ne_eqb}
+use Rattle.std.proofs.Common.{◌≡◌, [], ℕ, ◌+◌, ◌%◌, ◌^◌, Bool, true, false, eqb, sym, refl, ap, ◌∙◌, true≢false, eq-eqb, ne_eqb}
 use Rattle.rules.specs.Octets.{choose}
 use Rattle.rules.specs.Answers.{wrapped}
-use Rattle.rules.specs.Telnet.{after_iac, telnet_octet, layer_octet, to, removed_after, is_clear}
+use Rattle.rules.specs.Telnet.{after_iac, telnet_octet, layer_octet, to, answer_of, command_of, removed_after, is_clear}
 use Rattle.rules.specs.declared.Telnet.{Telnet}
 use Rattle.rules.specs.declared.Telnet.TheVariants.{Clear, Iac, Will, Wont, Do, Dont, Within, WithinIac}
 use Rattle.rules.specs.declared.Does.{Does}
-use Rattle.rules.specs.declared.Does.TheVariants.{Data, Removes}
+use Rattle.rules.specs.declared.Does.TheVariants.{Data, Nothing, AnswersDont, AnswersWont, Passes, Removes}
 use Rattle.rules.specs.declared.TelnetStep.{TelnetStep}
 use Rattle.rules.specs.declared.Layer.{Layer}
 use Rattle.octets.proofs.Choices.{choose-true, choose-false}
@@ -35,6 +35,23 @@ state-of d q e = q ∙ ap (λ (v : Telnet). to v d) e
 pub removes : (n m : ℕ) {d : Does} {r : ℕ} → d ≡ Removes m → r ≡ (n + m) % 2 ^ 32 → r ≡ removed_after n d
 unfolding wrapped
 removes n m e q = q ∙ ap (removed_after n) (sym e)
+
+-- what answers nothing, and what is no command
+pub no-answer : (d : Does) → ((x : ℕ) → d ≡ AnswersDont x → ⊥) → ((x : ℕ) → d ≡ AnswersWont x → ⊥) → [] ≡ answer_of d
+no-answer (Data y) f g = refl
+no-answer Nothing f g = refl
+no-answer (AnswersDont x) f g = absurd (f x refl)
+no-answer (AnswersWont x) f g = absurd (g x refl)
+no-answer (Passes x) f g = refl
+no-answer (Removes n) f g = refl
+
+pub no-command : (d : Does) → ((x : ℕ) → d ≡ Passes x → ⊥) → [] ≡ command_of d
+no-command (Data y) f = refl
+no-command Nothing f = refl
+no-command (AnswersDont x) f = refl
+no-command (AnswersWont x) f = refl
+no-command (Passes x) f = absurd (f x refl)
+no-command (Removes n) f = refl
 
 -- an octet of a direction whose octets are no lines, and of one whose octets are
 module _ (b : Bool) (l : Layer) (x : ℕ) where

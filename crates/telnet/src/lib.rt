@@ -30,29 +30,16 @@ pub fn octet(telnet: Telnet, x: u8) -> TelnetStep
     ensures { result ≡ telnet_octet telnet x }
 {
     match telnet {
-        Telnet::Clear => {
-            if x == IAC {
-                return to(Telnet::Iac, Does::Nothing);
-            }
-            to(Telnet::Clear, Does::Data(x))
-        }
+        Telnet::Clear if x == IAC => to(Telnet::Iac, Does::Nothing),
+        Telnet::Clear => to(Telnet::Clear, Does::Data(x)),
         Telnet::Iac => after_iac(x),
         Telnet::Will => to(Telnet::Clear, Does::AnswersDont(x)),
-        Telnet::Wont => to(Telnet::Clear, Does::Nothing),
         Telnet::Do => to(Telnet::Clear, Does::AnswersWont(x)),
-        Telnet::Dont => to(Telnet::Clear, Does::Nothing),
-        Telnet::Within => {
-            if x == IAC {
-                return to(Telnet::WithinIac, Does::Removes(1));
-            }
-            to(Telnet::Within, Does::Removes(1))
-        }
-        Telnet::WithinIac => {
-            if x == SE {
-                return to(Telnet::Clear, Does::Removes(1));
-            }
-            to(Telnet::Within, Does::Removes(1))
-        }
+        Telnet::Wont | Telnet::Dont => to(Telnet::Clear, Does::Nothing),
+        Telnet::Within if x == IAC => to(Telnet::WithinIac, Does::Removes(1)),
+        Telnet::Within => to(Telnet::Within, Does::Removes(1)),
+        Telnet::WithinIac if x == SE => to(Telnet::Clear, Does::Removes(1)),
+        Telnet::WithinIac => to(Telnet::Within, Does::Removes(1)),
     }
 }
 
@@ -66,25 +53,15 @@ fn to(telnet: Telnet, does: Does) -> TelnetStep
 fn after_iac(x: u8) -> TelnetStep
     ensures { result ≡ after_iac x }
 {
-    if x == IAC {
-        return to(Telnet::Clear, Does::Data(IAC));
+    match x {
+        IAC => to(Telnet::Clear, Does::Data(IAC)),
+        SB => to(Telnet::Within, Does::Removes(2)),
+        WILL => to(Telnet::Will, Does::Nothing),
+        WONT => to(Telnet::Wont, Does::Nothing),
+        DO => to(Telnet::Do, Does::Nothing),
+        DONT => to(Telnet::Dont, Does::Nothing),
+        _ => to(Telnet::Clear, Does::Passes(x)),
     }
-    if x == SB {
-        return to(Telnet::Within, Does::Removes(2));
-    }
-    if x == WILL {
-        return to(Telnet::Will, Does::Nothing);
-    }
-    if x == WONT {
-        return to(Telnet::Wont, Does::Nothing);
-    }
-    if x == DO {
-        return to(Telnet::Do, Does::Nothing);
-    }
-    if x == DONT {
-        return to(Telnet::Dont, Does::Nothing);
-    }
-    to(Telnet::Clear, Does::Passes(x))
 }
 
 // An octet of a direction: its layer after it, and what it does.
@@ -105,13 +82,10 @@ pub fn through(in_lines: bool, layer: Layer, x: u8) -> Layered
             does: Does::Data(x),
         };
     }
-    let telnet = layer.telnet;
-    let step = octet(telnet, x);
-    let does = step.does;
-    let then = step.telnet;
+    let TelnetStep { telnet, does } = octet(layer.telnet, x);
     Layered {
         layer: Layer {
-            telnet: then,
+            telnet,
             removed: removed_after(layer.removed, does),
         },
         does,
@@ -123,12 +97,8 @@ fn removed_after(removed: u32, does: Does) -> u32
     ensures { result ≡ removed_after removed does }
 {
     match does {
-        Does::Data(_) => removed,
-        Does::Nothing => removed,
-        Does::AnswersDont(_) => removed,
-        Does::AnswersWont(_) => removed,
-        Does::Passes(_) => removed,
-        Does::Removes(n) => std::num::wrapping_add_u32(removed, n),
+        Does::Removes(n) => removed.wrapping_add(n),
+        _ => removed,
     }
 }
 
@@ -146,30 +116,17 @@ pub fn cleared(layer: Layer) -> Layer
 pub fn is_clear(telnet: Telnet) -> bool
     ensures { result ≡ is_clear telnet }
 {
-    match telnet {
-        Telnet::Clear => true,
-        Telnet::Iac => false,
-        Telnet::Will => false,
-        Telnet::Wont => false,
-        Telnet::Do => false,
-        Telnet::Dont => false,
-        Telnet::Within => false,
-        Telnet::WithinIac => false,
-    }
+    matches!(telnet, Telnet::Clear)
 }
 
-// How many octets go back to the sender.
+// How many octets go back to the sender. Texts as values would need a function more for each length and put below.
 pub fn answer_length(does: Does) -> usize
     ensures result { result ≡ length (answer_of does) }
     ensures most { result ≤ 3 }
 {
     match does {
-        Does::Data(_) => 0,
-        Does::Nothing => 0,
-        Does::AnswersDont(_) => 3,
-        Does::AnswersWont(_) => 3,
-        Does::Passes(_) => 0,
-        Does::Removes(_) => 0,
+        Does::AnswersDont(_) | Does::AnswersWont(_) => 3,
+        _ => 0,
     }
 }
 
@@ -177,12 +134,9 @@ pub fn put_answer(out: &mut [u8], at: usize, does: Does) -> usize
     ensures { Put out.old at (answer_of does) result out.new }
 {
     match does {
-        Does::Data(_) => at,
-        Does::Nothing => at,
         Does::AnswersDont(x) => put(out, at, &[IAC, DONT, x]),
         Does::AnswersWont(x) => put(out, at, &[IAC, WONT, x]),
-        Does::Passes(_) => at,
-        Does::Removes(_) => at,
+        _ => at,
     }
 }
 
@@ -192,12 +146,8 @@ pub fn command_length(does: Does) -> usize
     ensures most { result ≤ 2 }
 {
     match does {
-        Does::Data(_) => 0,
-        Does::Nothing => 0,
-        Does::AnswersDont(_) => 0,
-        Does::AnswersWont(_) => 0,
         Does::Passes(_) => 2,
-        Does::Removes(_) => 0,
+        _ => 0,
     }
 }
 
@@ -205,12 +155,8 @@ pub fn put_command(out: &mut [u8], at: usize, does: Does) -> usize
     ensures { Put out.old at (command_of does) result out.new }
 {
     match does {
-        Does::Data(_) => at,
-        Does::Nothing => at,
-        Does::AnswersDont(_) => at,
-        Does::AnswersWont(_) => at,
         Does::Passes(x) => put(out, at, &[IAC, x]),
-        Does::Removes(_) => at,
+        _ => at,
     }
 }
 
@@ -220,14 +166,9 @@ pub fn unfinished_length(telnet: Telnet) -> usize
     ensures most { result ≤ 2 }
 {
     match telnet {
-        Telnet::Clear => 0,
+        Telnet::Clear | Telnet::Within | Telnet::WithinIac => 0,
         Telnet::Iac => 1,
-        Telnet::Will => 2,
-        Telnet::Wont => 2,
-        Telnet::Do => 2,
-        Telnet::Dont => 2,
-        Telnet::Within => 0,
-        Telnet::WithinIac => 0,
+        Telnet::Will | Telnet::Wont | Telnet::Do | Telnet::Dont => 2,
     }
 }
 
@@ -235,13 +176,11 @@ pub fn put_unfinished(out: &mut [u8], at: usize, telnet: Telnet) -> usize
     ensures { Put out.old at (unfinished telnet) result out.new }
 {
     match telnet {
-        Telnet::Clear => at,
+        Telnet::Clear | Telnet::Within | Telnet::WithinIac => at,
         Telnet::Iac => put(out, at, &[IAC]),
         Telnet::Will => put(out, at, &[IAC, WILL]),
         Telnet::Wont => put(out, at, &[IAC, WONT]),
         Telnet::Do => put(out, at, &[IAC, DO]),
         Telnet::Dont => put(out, at, &[IAC, DONT]),
-        Telnet::Within => at,
-        Telnet::WithinIac => at,
     }
 }

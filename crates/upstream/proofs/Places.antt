@@ -1,4 +1,5 @@
 -- A client octet by the place of its direction, as the code takes it apart.
+use Rattle.std.specs.Prelude.{None, Some}
 use mathlib.Core.Path.{◌≡◌, refl, sym, ap}
 use mathlib.Core.Bool.{Bool, true, false}
 use mathlib.Core.List.{List}
@@ -12,7 +13,6 @@ use Rattle.rules.specs.declared.Fixed.{Fixed}
 use Rattle.places.specs.declared.Place.{Place}
 use Rattle.places.specs.declared.Direction.{Direction}
 use Rattle.gives.specs.declared.Gives.{Gives}
-use Rattle.queue.specs.declared.Owes.{Owes}
 use Rattle.places.specs.Places.{at}
 use Rattle.upstream.specs.Upstream.{client_effect_of, place_effect, client_effect}
 
@@ -23,7 +23,7 @@ module _ (f : Fixed) (sw : Switches) where
   client-place d line x e = ap (λ (p : Place). place_effect f sw p d.held (take d.held line) (eqb x lf)) (sym e)
 
   pub client-flowing : (held : ℕ) (h : List ℕ) (b : Bool)
-      → choose b (client_effect_of Gives.LineOctet (at Place.Holding 0) sw (Owes.One Kind.Plain)) (client_effect_of Gives.LineOctet (at Place.Flowing 0) sw Owes.Nothing)
+      → choose b (client_effect_of Gives.LineOctet (at Place.Holding 0) sw (Some Kind.Plain)) (client_effect_of Gives.LineOctet (at Place.Flowing 0) sw None)
       ≡ place_effect f sw Place.Flowing held h b
   unfolding place_effect choose
   client-flowing held h true = refl

@@ -10,7 +10,6 @@ ghost use Rattle.upstream.specs.Upstream.{client_effect_of, judged_effect, join_
 
 use gives::Gives;
 use places::{Direction, LF, Place, first_octets, is_held};
-use queue::Owes;
 use rules::{Command, Fixed, Kind, OwnAnswer, Switches};
 
 // What a client octet does on the client's side.
@@ -19,7 +18,7 @@ pub struct ClientEffect {
     pub gives: Gives,
     pub direction: Direction,
     pub switches: Switches,
-    pub owes: Owes,
+    pub owes: Option<Kind>,
 }
 
 // The switches after an own answer: a 216 tells the state that then holds.
@@ -35,13 +34,13 @@ fn switches_answered(switches: Switches, answer: OwnAnswer) -> Switches
 
 // A client effect at the end of a line that owes one kind.
 fn owed(gives: Gives, place: Place, switches: Switches, kind: Kind) -> ClientEffect
-    ensures { result ≡ client_effect_of gives (direction_at place 0) switches (Owes.One kind) }
+    ensures { result ≡ client_effect_of gives (direction_at place 0) switches (Some kind) }
 {
     ClientEffect {
         gives,
         direction: Direction { place, held: 0 },
         switches,
-        owes: Owes::One(kind),
+        owes: Some(kind),
     }
 }
 
@@ -65,13 +64,13 @@ fn judged_effect(switches: Switches, command: Command) -> ClientEffect
 
 // A client effect that owes nothing.
 fn unowed(gives: Gives, place: Place, held: usize, switches: Switches) -> ClientEffect
-    ensures { result ≡ client_effect_of gives (direction_at place held) switches Owes.Nothing }
+    ensures { result ≡ client_effect_of gives (direction_at place held) switches None }
 {
     ClientEffect {
         gives,
         direction: Direction { place, held },
         switches,
-        owes: Owes::Nothing,
+        owes: None,
     }
 }
 
@@ -102,8 +101,8 @@ fn hold_effect(fixed: Fixed, switches: Switches, held: usize, line: &[u8], x: u8
 // An octet of a client line that flows: at its LF a plain reply is owed.
 fn flow_effect(switches: Switches, x: u8) -> ClientEffect
     ensures { result ≡ choose (eqb x lf)
-        (client_effect_of Gives.LineOctet (direction_at Place.Holding 0) switches (Owes.One Kind.Plain))
-        (client_effect_of Gives.LineOctet (direction_at Place.Flowing 0) switches Owes.Nothing) }
+        (client_effect_of Gives.LineOctet (direction_at Place.Holding 0) switches (Some Kind.Plain))
+        (client_effect_of Gives.LineOctet (direction_at Place.Flowing 0) switches None) }
 {
     if x == LF {
         return owed(Gives::LineOctet, Place::Holding, switches, Kind::Plain);

@@ -3,8 +3,8 @@
 // others read.
 #![tactic(auto)]
 
-use octets::Number;
-use rules::{Command, Does, Fixed, IPV4, IPV6, PassiveReply, ReplyLine, Switches, Telnet};
+use places::first_octets;
+use rules::{Command, Does, Fixed, IPV4, IPV6, ReplyLine, Switches, Telnet};
 use std::io;
 use std::io::{BufWriter, Write};
 
@@ -25,6 +25,36 @@ struct Adler {
     b: u16,
 }
 
+impl Adler {
+    fn of_nothing() -> Adler {
+        Adler { a: 1, b: 0 }
+    }
+
+    fn with_octet(self, x: u8) -> Adler {
+        let a = (u32::from(self.a) + u32::from(x)) % 65521;
+        let b = (u32::from(self.b) + a) % 65521;
+        Adler {
+            a: a as u16,
+            b: b as u16,
+        }
+    }
+
+    // With the line that `put` writes at the front of a buffer, and how long it is.
+    fn with_line<Put: Fn(&mut [u8]) -> usize>(self, put: Put) -> Adler
+        requires { Put.IsAlwaysCallable put }
+    {
+        let mut out = [0u8; 64];
+        let n = put(&mut out);
+        first_octets(&out, n)
+            .iter()
+            .fold(self, |sum, x| sum.with_octet(*x))
+    }
+
+    fn number(self) -> u64 {
+        u64::from(self.b) * 65536 + u64::from(self.a)
+    }
+}
+
 fn main(rt: HostRuntime) -> io::Result<()> {
     let text = streams::read_most(rt.alloc(), rt.reader(), MOST)?;
     let mut out = BufWriter::new(rt.alloc(), io::writer(&rt))?;
@@ -32,59 +62,46 @@ fn main(rt: HostRuntime) -> io::Result<()> {
     out.flush()
 }
 
+// The lines that end with LF: what stands behind the last of these is none.
 fn print_lines(out: &mut impl Write, text: &[u8]) -> io::Result<()> {
-    let mut start = 0;
-    let mut end = octets::find(text, 0, b'\n');
-    while end < text.len() {
-        print_line(out, &text[start..end])?;
-        start = end + 1;
-        end = octets::find(text, start, b'\n');
+    for part in text.split_inclusive(|x| *x == b'\n') {
+        if let Some((b'\n', line)) = part.split_last() {
+            print_line(out, line)?;
+        }
     }
     Ok(())
 }
 
 // What is made of a vector; nothing of an empty line or a comment.
 fn print_line(out: &mut impl Write, line: &[u8]) -> io::Result<()> {
-    if line.len() == 0 {
-        return Ok(());
-    }
-    match line[0] {
-        b'#' => Ok(()),
-        b'A' => print_sums(out),
-        reader => print_vector(out, reader, line),
+    match line {
+        [b'A', ..] => print_sums(out),
+        [b'#', ..] | [] | [_] => Ok(()),
+        [reader, _, text @ ..] => print_vector(out, *reader, text),
     }
 }
 
-fn print_vector(out: &mut impl Write, reader: u8, line: &[u8]) -> io::Result<()> {
-    if line.len() < 2 {
-        return Ok(());
-    }
-    let text = &line[2..];
+fn print_vector(out: &mut impl Write, reader: u8, text: &[u8]) -> io::Result<()> {
     if reader == b'6' {
         return print_address(out, text);
     }
     let mut put = [0u8; 64];
     let n = put_line(&mut put, reader, text);
-    out.write_all(first(&put, n))
+    out.write_all(first_octets(&put, n))
 }
 
 // IPv6 text: its sixteen octets in hexadecimal, or a hyphen.
 fn print_address(out: &mut impl Write, text: &[u8]) -> io::Result<()> {
-    let read = address::ipv6(text);
-    if !read.valid {
+    let Some(octets) = address::ipv6(text) else {
         return writeln!(out, "-");
-    }
-    let octets = read.octets;
-    print_octets(out, octets)
-}
-
-fn print_octets(out: &mut impl Write, octets: [u8; IPV6]) -> io::Result<()> {
+    };
     for x in octets {
         write!(out, "{x:02x}")?;
     }
     writeln!(out)
 }
 
+// By the letter of the reader: a table of closures would only say the letters again.
 fn put_line(out: &mut [u8], reader: u8, text: &[u8]) -> usize {
     match reader {
         b'C' => put_command(out, text),
@@ -139,29 +156,27 @@ fn put_opens(out: &mut [u8], code: u32) -> usize {
 
 fn put_passive_reply(out: &mut [u8], content: &[u8]) -> usize {
     match replies::passive_reply(content) {
-        PassiveReply::At(_, _, _, _, port) => writers::put_extended_passive(out, 0, port),
-        PassiveReply::Unreadable => output::put(out, 0, b"passes\n"),
+        Some(named) => writers::put_extended_passive(out, 0, named.port),
+        None => output::put(out, 0, b"passes\n"),
     }
 }
 
 // A Telnet octet, in decimal behind the name of the state before it and a space: the state after it, and what it does.
 fn put_telnet(out: &mut [u8], text: &[u8]) -> usize {
-    let end = octets::find(text, 0, b' ');
-    if text.len() <= end {
+    let Some(end) = text.iter().position(|x| *x == b' ') else {
         return output::put(out, 0, b"no such state\n");
-    }
+    };
     let state = state_named(&text[..end]);
-    let Number::Value(x) = octets::read_number(&text[end + 1..], 3, 0, 255) else {
+    let Some(x) = octets::read_number(&text[end + 1..], 3, 0, 255) else {
         return output::put(out, 0, b"no octet\n");
     };
     let step = telnet::octet(state, (x % 256) as u8);
-    let then = step.telnet;
-    let does = step.does;
-    let at = put_state(out, then);
-    put_does(out, at, does)
+    let at = put_state(out, step.telnet);
+    put_does(out, at, step.does)
 }
 
-// The state of a name, which is given in capitals; Clear for any that is none.
+// The state of a name, which is given in capitals; Clear for any that is none. Letter case does not count, so it is no
+// `match` on the name.
 fn state_named(name: &[u8]) -> Telnet {
     if octets::alike(name, b"IAC") {
         return Telnet::Iac;
@@ -202,11 +217,11 @@ fn put_state(out: &mut [u8], telnet: Telnet) -> usize {
 
 fn put_does(out: &mut [u8], at: usize, does: Does) -> usize {
     match does {
-        Does::Data(x) => put_told(out, at, b"data ", x as u32),
+        Does::Data(x) => put_told(out, at, b"data ", u32::from(x)),
         Does::Nothing => output::put(out, at, b"nothing\n"),
-        Does::AnswersDont(x) => put_told(out, at, b"answers 255 254 ", x as u32),
-        Does::AnswersWont(x) => put_told(out, at, b"answers 255 252 ", x as u32),
-        Does::Passes(x) => put_told(out, at, b"passes 255 ", x as u32),
+        Does::AnswersDont(x) => put_told(out, at, b"answers 255 254 ", u32::from(x)),
+        Does::AnswersWont(x) => put_told(out, at, b"answers 255 252 ", u32::from(x)),
+        Does::Passes(x) => put_told(out, at, b"passes 255 ", u32::from(x)),
         Does::Removes(n) => put_told(out, at, b"removes ", n),
     }
 }
@@ -218,61 +233,13 @@ fn put_told(out: &mut [u8], at: usize, word: &[u8], n: u32) -> usize {
     output::put(out, end, b"\n")
 }
 
-// The first n octets.
-fn first(out: &[u8], n: usize) -> &[u8] {
-    if n > out.len() {
-        return out;
-    }
-    &out[..n]
-}
-
 // The sums of the PORT lines of all ports and of their 229 lines.
 fn print_sums(out: &mut impl Write) -> io::Result<()> {
-    let start = Adler { a: 1, b: 0 };
-    let mut port_lines = start;
-    let mut passive_lines = start;
-    let mut port: u32 = 0;
-    while port < 65536 {
-        port_lines = with_port_line(port_lines, port as u16);
-        passive_lines = with_extended_passive(passive_lines, port as u16);
-        port += 1;
+    let mut ports = Adler::of_nothing();
+    let mut passives = Adler::of_nothing();
+    for port in 0..=u16::MAX {
+        ports = ports.with_line(|out| writers::put_port_line(out, 0, MAPPED, port));
+        passives = passives.with_line(|out| writers::put_extended_passive(out, 0, port));
     }
-    let ports = number(port_lines);
-    let passives = number(passive_lines);
-    writeln!(out, "{ports} {passives}")
-}
-
-fn with_port_line(before: Adler, port: u16) -> Adler {
-    let mut out = [0u8; 64];
-    let n = writers::put_port_line(&mut out, 0, MAPPED, port);
-    with_octets(before, first(&out, n))
-}
-
-fn with_extended_passive(before: Adler, port: u16) -> Adler {
-    let mut out = [0u8; 64];
-    let n = writers::put_extended_passive(&mut out, 0, port);
-    with_octets(before, first(&out, n))
-}
-
-fn with_octets(before: Adler, octets: &[u8]) -> Adler {
-    let mut sum = before;
-    let mut i = 0;
-    while i < octets.len() {
-        sum = with_octet(sum, octets[i]);
-        i += 1;
-    }
-    sum
-}
-
-fn with_octet(before: Adler, x: u8) -> Adler {
-    let a = (before.a as u32 + x as u32) % 65521;
-    let b = (before.b as u32 + a) % 65521;
-    Adler {
-        a: a as u16,
-        b: b as u16,
-    }
-}
-
-fn number(sum: Adler) -> u64 {
-    sum.b as u64 * 65536 + sum.a as u64
+    writeln!(out, "{} {}", ports.number(), passives.number())
 }

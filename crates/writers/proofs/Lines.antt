@@ -8,12 +8,19 @@ use lib.Seq.{drop-cons}
 use Rattle.rules.specs.Octets.{oct, comma, decimal}
 use Rattle.rules.specs.Commands.{commas, port_line}
 use Rattle.rules.specs.Replies.{extended_passive_line}
+use Rattle.std.specs.Int.{w16, to_be_bytes}
 use Rattle.output.proofs.Decimal.{decimal-most}
 
 -- two numbers with a comma between, and what follows them
 pub pair : (a b : ℕ) (after : List ℕ) → (decimal a ++ (comma ∷ [])) ++ (decimal b ++ after) ≡ commas (a ∷ b ∷ []) ++ after
 unfolding commas
 pair a b after = simp append_assoc
+
+-- a port as its two octets
+pub high-low : (p : ℕ) → p < 65536 → to_be_bytes w16 p ≡ p / 256 ∷ p % 256 ∷ []
+high-low p h =
+    let high : p / 256 % 256 ≡ p / 256 = omega arith in
+    ap (λ (n : ℕ). n ∷ p % 256 ∷ []) high
 
 four : (l : List ℕ) → length l ≡ 4 → l ≡ get_or l 0 0 ∷ get_or l 1 0 ∷ get_or l 2 0 ∷ get_or l 3 0 ∷ []
 four l e =

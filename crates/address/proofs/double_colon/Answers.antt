@@ -1,44 +1,15 @@
-use native.Mathlib.Omega.{arith}
-use Rattle.address.proofs.Halves.{behind-nil, halves-on, halves-here, halves-none}
+-- `address::double_colon`. The windows of two octets are the pairs of the text.
+use mathlib.Core.Path.{◌≡◌}
+use borrow.Author.Rules.{rules}
+use borrow.Author.Tests.{tests}
+use Rattle.std.specs.List.{position}
+use Rattle.std.proofs.lemmas.Iterator.Search.{position_from_yields_List}
+use Rattle.address.proofs.Halves.{pairs, double, windows-pairs, halves-position, position-within}
 use Rattle.address.proofs.double_colon.Goals as goal
-use Rattle.address.proofs.double_colon.Goals.{then-text-i-eq58+else-text-i-eq58-2, else-text-i-eq58}
-
-pub loop-i-init : goal.loop-i-init
-loop-i-init c = (omega arith, behind-nil _)
-
-pub overflow_add-i : goal.overflow_add-i
-overflow_add-i c = omega arith
-
-pub bounds-text-i : goal.bounds-text-i
-bounds-text-i c = omega arith
-
-pub overflow_add-i-then-text-i-eq58 : goal.overflow_add-i-then-text-i-eq58
-overflow_add-i-then-text-i-eq58 c = omega arith
-
-pub bounds-text-i-then-text-i-eq58 : goal.bounds-text-i-then-text-i-eq58
-bounds-text-i-then-text-i-eq58 c = omega arith
-
-pub returns-then-text-i-eq58-2 : goal.returns-then-text-i-eq58-2
-returns-then-text-i-eq58-2 c =
-    let l = c.loop-i in
-    let in-text = c.loop-i-test.true in record { result = halves-here _ l.i in-text c.if-text-i-eq58.true c.if-text-i-eq58-2.true l.invariant.1; within = λ h. in-text }
-
-pub overflow_add-i-in-loop-i : goal.overflow_add-i-in-loop-i
-overflow_add-i-in-loop-i c = omega arith
-
-pub loop-i-smaller : goal.loop-i-smaller
-loop-i-smaller c = omega arith
-
-pub loop-i-preserved : goal.loop-i-preserved
-loop-i-preserved c =
-    let l = c.loop-i in
-    let on = halves-on c.args.text.now l.i c.loop-i-test.true in (
-      omega arith,
-      elim c.if-text-i-eq58.branch [
-        | then-text-i-eq58+else-text-i-eq58-2 w ↦ on (λ a b. w.if-text-i-eq58-2.false b) l.invariant.1
-        | else-text-i-eq58 w ↦ on (λ a b. w.if-text-i-eq58.false a) l.invariant.1
-      ],
-    )
 
 pub returns : goal.returns
-returns c = record { result = halves-none _ c.loop-i.i c.loop-i-test.false c.loop-i.invariant.1; within = λ h. absurd (omega arith) }
+returns c =
+    let found : c.position.result ≡ position double (pairs c.args.text.now) =
+    position_from_yields_List {v = λ x. x.now} {all = pairs c.args.text.now} double _ _ _ c.position.ensures.ran
+    (windows-pairs _ _ c.windows.ensures.rest c.windows.ensures.size) (λ x b q k. search (rules, tests)) in
+    rw found (record { halves = halves-position c.args.text.now; within = position-within c.args.text.now })

@@ -14,13 +14,13 @@ pub returns-in-97-to-102 : goal.returns-in-97-to-102
 returns-in-97-to-102 c = sym (hex-small _ (omega arith) (omega arith))
 
 pub returns-in_default : goal.returns-in_default
-returns-in_default c = sym (hex-none _ (λ a b. omega arith) (λ a b. omega arith) (λ a b. omega arith))
+returns-in_default c = sym (hex-none _ (λ p q. omega arith) (λ p q. omega arith) (λ p q. omega arith))
 
 pub returns-in_default-2 : goal.returns-in_default-2
-returns-in_default-2 c = sym (hex-none _ (λ a b. omega arith) (λ a b. omega arith) (λ a b. omega arith))
+returns-in_default-2 c = sym (hex-none _ (λ p q. omega arith) (λ p q. omega arith) (λ p q. omega arith))
 
 pub returns-in_default-3 : goal.returns-in_default-3
-returns-in_default-3 c = sym (hex-none _ (λ a b. omega arith) (λ a b. omega arith) (λ a b. omega arith))
+returns-in_default-3 c = sym (hex-none _ (λ p q. omega arith) (λ p q. omega arith) (λ p q. omega arith))
 
 pub returns-in_default-4 : goal.returns-in_default-4
-returns-in_default-4 c = sym (hex-none _ (λ a b. omega arith) (λ a b. omega arith) (λ a b. omega arith))
+returns-in_default-4 c = sym (hex-none _ (λ p q. omega arith) (λ p q. omega arith) (λ p q. omega arith))

@@ -1,33 +1,28 @@
 -- `address::ipv6`. No loop: readings of more than sixteen octets are no address, in the definition as in the code.
-use mathlib.Core.Path.{sym, ap, ◌∙◌}
-use Prim.Native.Nat.{◌+◌}
-use native.Mathlib.Omega.{arith}
-use lib.Seq.{length-take-le}
-use Rattle.address.specs.Text.{ipv6_read}
-use Rattle.address.proofs.Texts.{rest_part, ipv6-halves, ipv6-whole}
-use Rattle.address.proofs.Wholes.{filled-fits, eight_fits}
+use mathlib.Core.Path.{◌∙◌}
+use Rattle.address.proofs.Texts.{rest_part, ipv6-halves, ipv6-no-head, ipv6-no-tail, ipv6-whole, ipv6-no-groups}
 use Rattle.address.proofs.ipv6.Goals as goal
 
-pub slice_bounds-half-end-then-at-text : goal.slice_bounds-half-end-then-at-text
-slice_bounds-half-end-then-at-text c = sym (length-take-le c.double_colon-at.result c.args.text.now (omega arith))
+pub returns-in_err-push_groups : goal.returns-in_err-push_groups
+returns-in_err-push_groups c =
+    rw c.from_residual.ensures (ipv6-no-groups _ c.in_default.ensures.halves (rw c.new-head.ensures at c.in_err-push_groups.ensures))
 
-pub slice_bounds-half-count : goal.slice_bounds-half-count
-slice_bounds-half-count c = omega (arith, c.double_colon-at.ensures.within c.if-at-text.true)
+pub returns-in_default : goal.returns-in_default
+returns-in_default c =
+    c.whole.ensures ∙ ipv6-whole _ c.in_default.ensures.halves (rw c.new-head.ensures at c.in_ok-push_groups.ensures)
 
-pub slice_bounds-half-start : goal.slice_bounds-half-start
-slice_bounds-half-start c = omega (arith, c.double_colon-at.ensures.within c.if-at-text.true)
+pub returns-in_err-push_half : goal.returns-in_err-push_half
+returns-in_err-push_half c =
+    rw c.from_residual-in_err-push_half.ensures (ipv6-no-head _ _ c.in-Some.ensures.halves (rw c.new-head.ensures at c.in_err-push_half.ensures))
 
-pub returns-then-at-text : goal.returns-then-at-text
-returns-then-at-text c =
-    let found = c.double_colon-at in
-    let t = c.args.text.now in
-    c.filled.ensures
-    ∙ ap ipv6_read
-    (rw (c.half-before.ensures.gives, c.half-after.ensures.gives, filled-fits, rest_part t (found.result + 2)) (sym (ipv6-halves t found.result found.ensures.result c.if-at-text.true)))
+pub returns-in_err-push_half-2 : goal.returns-in_err-push_half-2
+returns-in_err-push_half-2 c =
+    rw c.from_residual-in_err-push_half-2.ensures
+    (ipv6-no-tail _ _ c.in-Some.ensures.halves (rw c.new-head.ensures at c.in_ok-push_half.ensures)
+    (rw (c.new-tail.ensures, rest_part) at c.in_err-push_half-2.ensures))
 
 pub returns : goal.returns
 returns c =
-    let found = c.double_colon-at in
-    c.eight_groups.ensures
-    ∙ ap ipv6_read
-    (rw (c.groups-read.ensures.gives, eight_fits) (sym (ipv6-whole _ found.result found.ensures.result c.if-at-text.false)))
+    rw (c.filled.ensures, c.as_slice.ensures, c.as_slice-2.ensures)
+    (ipv6-halves _ _ c.in-Some.ensures.halves (rw c.new-head.ensures at c.in_ok-push_half.ensures)
+    (rw (c.new-tail.ensures, rest_part) at c.in_ok-push_half-2.ensures))

@@ -3,14 +3,13 @@ use mathlib.Core.Path.{◌≡◌, sym, subst, ◌∙◌}
 use mathlib.Core.Bool.{false}
 use mathlib.Core.List.{List, []}
 use Prim.Native.Nat.{ℕ}
-use native.Mathlib.Omega.{arith}
 use lib.ListN.{length}
 use Rattle.rules.specs.declared.Fixed.{Fixed}
 use Rattle.records.specs.Sound.{side_if}
 use Rattle.steps.specs.Takes.{core_lent}
 use Rattle.output.proofs.Front.{filled}
 use Rattle.steps.proofs.Lent.{kinds-size, lines-lent, lines-size}
-use Rattle.steps.proofs.Over.{then, then-size, then-addresses}
+use Rattle.steps.proofs.Over.{then, then-addresses}
 use Rattle.arrivals.proofs.LentRuns.{run-over}
 use Rattle.arrivals.proofs.Parts.{ran-bounded, ran_then}
 use Rattle.rules.specs.Answers.{most_owed}
@@ -23,14 +22,6 @@ any = record { client = []; mapped = []; server = []; supported = false; strict 
 
 pub returns-then-octets-j : goal.returns-then-octets-j
 returns-then-octets-j c = record { ran = c.plain_lines-plain.ensures.ran; fixed = c.plain_lines-plain.ensures.fixed }
-
-pub returns-then-octets-j-eq-LF : goal.returns-then-octets-j-eq-LF
-returns-then-octets-j-eq-LF c = record { ran = c.plain_lines-plain.ensures.ran; fixed = c.plain_lines-plain.ensures.fixed }
-
-pub slice_bounds-kinds_from-end : goal.slice_bounds-kinds_from-end
-slice_bounds-kinds_from-end c =
-    let all = c.plain_lines-plain.auto.lent ∙ c.requires.within.1 in
-    omega arith
 
 pub any_run-requires : goal.any_run-requires
 any_run-requires c =
@@ -46,7 +37,7 @@ returns c =
     let a = c.args in
     let side = side_if a.from_client in
     let p = c.plain_lines-plain in
-    let kinds = c.kinds_from-kinds in
+    let kinds = c.array_from-kinds in
     let r = c.any_run in
     let lent = p.new.lent in
     let all = p.auto.lent ∙ c.requires.within.1 in
@@ -64,25 +55,3 @@ returns c =
           p.result.taken r.result.taken (kinds.ensures ∙ filled most_owed _ (kinds-size lent all)) (r.ensures f));
       fixed = then-addresses lent lines all kept ∙ p.ensures.fixed;
     }
-
-pub shape_of-lent : goal.shape_of-lent
-shape_of-lent c =
-    let p = c.plain_lines-plain in
-    let r = c.any_run in
-    let all = p.auto.lent ∙ c.requires.within.1 in
-    then-size p.new.lent r.new.lines all r.auto.lines ∙ sym c.requires.within.1
-
-pub shape_of-to_server : goal.shape_of-to_server
-shape_of-to_server c =
-    let p = c.plain_lines-plain.auto.to_server in
-    let r = c.any_run.auto.to_server in
-    r ∙ p
-
-pub shape_of-to_client : goal.shape_of-to_client
-shape_of-to_client c =
-    let p = c.plain_lines-plain.auto.to_client in
-    let r = c.any_run.auto.to_client in
-    r ∙ p
-
-pub slice_bounds-kinds_from-start : goal.slice_bounds-kinds_from-start
-slice_bounds-kinds_from-start c = omega arith

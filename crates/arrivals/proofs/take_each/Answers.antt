@@ -1,10 +1,11 @@
-use mathlib.Core.Path.{◌≡◌, refl, sym, subst, ◌∙◌}
+use mathlib.Core.Path.{◌≡◌, refl, sym, ap, subst, ◌∙◌}
 use mathlib.Core.Bool.{Bool, true}
 use mathlib.Core.List.{List}
 use Prim.Native.Nat.{ℕ, ◌+◌}
 use native.Mathlib.Omega.{arith}
 use lib.ListN.{length, get_or}
 use Rattle.rules.specs.Answers.{Side, answer_number}
+use Rattle.rules.specs.declared.Answer.{Answer}
 use Rattle.records.specs.Layout.{lent_size}
 use Rattle.records.specs.declared.Control.{Control}
 use Rattle.records.specs.Sound.{side_if, Counted}
@@ -17,14 +18,24 @@ use Rattle.steps.proofs.Nexts.{Answered, within-bounded}
 use Rattle.arrivals.proofs.Going.{Going, Stopped, going_start, going_next, stopped-done, stopped-next}
 use Rattle.arrivals.proofs.Parts.{going-run}
 use Rattle.arrivals.proofs.take_each.Goals as goal
-use Rattle.arrivals.proofs.take_each.Goals.{After-written-then-i-octets-1}
+use Rattle.arrivals.proofs.take_each.Goals.{After-rebuilt-control-then-i-octets}
+
+-- number 0 is Done's alone
+done_only : (a : Answer) → answer_number a ≡ 0 → a ≡ Answer.Done
+done_only Answer.Done e = refl
+done_only Answer.QueueFull e = absurd (omega arith)
+done_only Answer.NoRoom e = absurd (omega arith)
+done_only Answer.UnknownDirection e = absurd (omega arith)
+done_only Answer.BadRecord e = absurd (omega arith)
+done_only Answer.BadSetup e = absurd (omega arith)
+done_only Answer.DirectionEnded e = absurd (omega arith)
 
 -- the counts that a record's arrays can hold
 held-counts : {c : Control} {w : Written} {sb cb : List ℕ} → Bounded c w sb cb → Counted c
 held-counts bounded = record { owed = bounded.owed; command = bounded.command; reply = bounded.reply }
 
 -- behind a run, whose control is built anew, and an octet: what the setup fixed is as it was at first
-module _ (c : After-written-then-i-octets-1) where
+module _ (c : After-rebuilt-control-then-i-octets) where
   abbrev fixed : Fixed
   fixed = fixed_lent c.args.supported c.args.strict c.args.lent.now
 
@@ -134,19 +145,19 @@ loop-i-init c =
 pub next_run-run-requires : goal.next_run-run-requires
 next_run-run-requires c = let v = c.loop-i.invariant in record { bounds = v.0.bounded; within = (v.1, v.2) }
 
-pub returns-then-number_of-ne0 : goal.returns-then-number_of-ne0
-returns-then-number_of-ne0 c = record { given = stopped (goal.at.returns-then-number_of-ne0 c).After-written-then-i-octets-1 (λ e. c.if-number_of-ne0.true (c.number_of.ensures ∙ e)); fixed = kept (goal.at.returns-then-number_of-ne0 c).After-written-then-i-octets-1; counts = counted (goal.at.returns-then-number_of-ne0 c).After-written-then-i-octets-1 }
+pub returns-in_default : goal.returns-in_default
+returns-in_default c = record { given = stopped (goal.at.returns-in_default c).After-rebuilt-control-then-i-octets (λ e. c.in_default.not-Done (done_only _ e)); fixed = kept (goal.at.returns-in_default c).After-rebuilt-control-then-i-octets; counts = counted (goal.at.returns-in_default c).After-rebuilt-control-then-i-octets }
 
 pub loop-i-smaller-then-i-octets : goal.loop-i-smaller-then-i-octets
 loop-i-smaller-then-i-octets c =
     let more = c.loop-i-test.true in
-    let ran = (c.next_run-run.ensures.ran (fixed (goal.at.loop-i-smaller-then-i-octets c).After-written-then-i-octets-1)).forward in
+    let ran = (c.next_run-run.ensures.ran (fixed (goal.at.loop-i-smaller-then-i-octets c).After-rebuilt-control-then-i-octets)).forward in
     omega arith
 
 pub loop-i-preserved-then-i-octets : goal.loop-i-preserved-then-i-octets
 loop-i-preserved-then-i-octets c =
     let more = c.if-i-octets.true in
-    (goes (goal.at.loop-i-preserved-then-i-octets c).After-written-then-i-octets-1 (sym c.number_of.ensures ∙ c.if-number_of-ne0.false), omega arith, (same (goal.at.loop-i-preserved-then-i-octets c).After-written-then-i-octets-1).0 ∙ c.requires.lengths, kept (goal.at.loop-i-preserved-then-i-octets c).After-written-then-i-octets-1)
+    (goes (goal.at.loop-i-preserved-then-i-octets c).After-rebuilt-control-then-i-octets (ap answer_number c.in-Done.is), omega arith, (same (goal.at.loop-i-preserved-then-i-octets c).After-rebuilt-control-then-i-octets).0 ∙ c.requires.lengths, kept (goal.at.loop-i-preserved-then-i-octets c).After-rebuilt-control-then-i-octets)
 
 pub loop-i-smaller : goal.loop-i-smaller
 loop-i-smaller c =
@@ -180,21 +191,3 @@ returns c =
       fixed = l.invariant.3;
       counts = held-counts l.invariant.0.bounded;
     }
-
-pub shape_of-lent-then-number_of-ne0 : goal.shape_of-lent-then-number_of-ne0
-shape_of-lent-then-number_of-ne0 c = (same (goal.at.shape_of-lent-then-number_of-ne0 c).After-written-then-i-octets-1).0
-
-pub shape_of-to_server-then-number_of-ne0 : goal.shape_of-to_server-then-number_of-ne0
-shape_of-to_server-then-number_of-ne0 c = (same (goal.at.shape_of-to_server-then-number_of-ne0 c).After-written-then-i-octets-1).1.0
-
-pub shape_of-to_client-then-number_of-ne0 : goal.shape_of-to_client-then-number_of-ne0
-shape_of-to_client-then-number_of-ne0 c = (same (goal.at.shape_of-to_client-then-number_of-ne0 c).After-written-then-i-octets-1).1.1
-
-pub shape_of-lent : goal.shape_of-lent
-shape_of-lent c = c.loop-i.invariant.2 ∙ sym c.requires.lengths
-
-pub shape_of-to_server : goal.shape_of-to_server
-shape_of-to_server c = c.loop-i.invariant.0.server-size
-
-pub shape_of-to_client : goal.shape_of-to_client
-shape_of-to_client c = c.loop-i.invariant.0.client-size

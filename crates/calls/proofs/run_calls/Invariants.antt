@@ -1,9 +1,6 @@
--- `calls::run_calls`: a call ends within the script, and what is left of the script is less with each.
-use Rattle.std.proofs.Common.{◌-◌, ◌≤◌, length}
+-- `calls::run_calls`: what is left of the calls is less with each.
+use Rattle.std.proofs.Common.{length}
 use Rattle.calls.proofs.run_calls.Given as goal
 
-abbrev pub invariant-loop-at : goal.invariant-loop-at
-invariant-loop-at g l = l.next ≤ length l.script
-
-abbrev pub decreases-loop-at : goal.decreases-loop-at
-decreases-loop-at g l = length l.script - l.at
+abbrev pub decreases-loop-call : goal.decreases-loop-call
+decreases-loop-call g l = length l.rest

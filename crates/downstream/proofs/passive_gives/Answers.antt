@@ -4,11 +4,11 @@ use Rattle.downstream.specs.Downstream.{passive_effect}
 use Rattle.downstream.proofs.Foreign.{named}
 use Rattle.downstream.proofs.passive_gives.Goals as goal
 
-pub returns-in-At : goal.returns-in-At
-returns-in-At c =
-    named _ _ _ _ _ _ c.named_gives.ensures c.is_foreign.ensures c.in-At.is
+pub returns-in-Some : goal.returns-in-Some
+returns-in-Some c =
+    named _ _ c.named_gives.ensures c.is_foreign.ensures c.in-Some.is
     ∙ ap (passive_effect _) c.passive_reply.ensures
 
-pub returns-in-Unreadable : goal.returns-in-Unreadable
+pub returns-in-None : goal.returns-in-None
 unfolding passive_effect
-returns-in-Unreadable c = ap (passive_effect _) (sym c.in-Unreadable.is ∙ c.passive_reply.ensures)
+returns-in-None c = ap (passive_effect _) (sym c.in-None.is ∙ c.passive_reply.ensures)

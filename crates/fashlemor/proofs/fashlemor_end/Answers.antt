@@ -6,4 +6,4 @@ pub returns : goal.returns
 returns c =
     let a = c.args in
     let r = c.end_at-done in
-    let same = narrow-ended a.image.now a.direction a.to_server.now a.to_client.now c.narrowed.ensures in let both = all_told a.image.now a.to_server.now a.to_client.now same r.result (r.ensures.told, r.ensures.buffers) c.number_of.ensures c.put_counts.ensures in record { told = both.0; «record» = both.1.0; buffers = both.1.1 }
+    let same = narrow-ended a.image.now a.direction a.to_server.now a.to_client.now c.narrowed.ensures in let both = all_told a.image.now a.to_server.now a.to_client.now same r.result (r.ensures.told, r.ensures.buffers) c.from.ensures c.put_counts.ensures in record { told = both.0; «record» = both.1.0; buffers = both.1.1 }

@@ -7,9 +7,9 @@ use Rattle.fashlemor.proofs.fashlemor_offset.Goals as goal
 pub returns-in_default : goal.returns-in_default
 unfolding offset_number offset_after
 returns-in_default c =
-    let a = c.args in let both = offset-told a.image.now a.direction a.out.now c.read_image-session.ensures c.narrowed.ensures c.offset.ensures c.in_default.is c.number_of.ensures refl in record { number = both.0; offset = both.1 }
+    let a = c.args in let both = offset-told a.image.now a.direction a.out.now c.read_image-session.ensures c.narrowed.ensures c.offset.ensures c.in_default.is c.from.ensures refl in record { number = both.0; offset = both.1 }
 
 pub returns : goal.returns
 unfolding offset_number offset_after
 returns c =
-    let a = c.args in let both = offset-told a.image.now a.direction a.out.now c.read_image-session.ensures c.narrowed.ensures c.offset.ensures c.in-Is.is c.number_of-2.ensures refl in record { number = both.0; offset = both.1 }
+    let a = c.args in let both = offset-told a.image.now a.direction a.out.now c.read_image-session.ensures c.narrowed.ensures c.offset.ensures c.in-Some.is c.from-2.ensures refl in record { number = both.0; offset = both.1 }

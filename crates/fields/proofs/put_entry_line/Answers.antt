@@ -28,7 +28,7 @@ returns c =
     (line-parts a.n a.taken a.number a.to_server.now a.to_client.now)
     (joined a.out.now a.at (decimal a.n ++ oct " ") tail c.put_number-next.ensures
     (joined c.put_number-next.new.out c.put_number-next.result (decimal a.taken ++ oct " ") answer c.put_number-next-2.ensures
-    (joined c.put_number-next-2.new.out c.put_number-next-2.result (decimal a.number ++ oct " ") fields c.put_number-next-3.ensures
+    (joined c.put_number-next-2.new.out c.put_number-next-2.result (decimal a.number ++ oct " ") fields (rw c.from.ensures at c.put_number-next-3.ensures)
     (joined c.put_number-next-3.new.out c.put_number-next-3.result (field a.to_server.now ++ oct " ") client c.put_part-next.ensures
     c.put_part.ensures))))
     (room a.out.now a.at (entry_line a.n (done_of a.taken a.number a.to_server.now a.to_client.now)) c.line_fits.ensures refl (ap not c.if-not-line_fits.false))

@@ -1,69 +1,65 @@
-use mathlib.Core.Path.{sym, subst, ◌∙◌}
+use mathlib.Core.Path.{sym, ap, subst, ◌∙◌}
 use mathlib.Core.List.{List}
-use Prim.Native.Nat.{ℕ, ◌+◌, ◌-◌, ◌≤◌}
+use Prim.Native.Nat.{ℕ, ◌+◌, ◌≤◌}
 use native.Mathlib.Omega.{arith}
 use lib.ListN.{length, get_or, drop}
+use borrow.Author.Tests.{eqb-true, eqb-false, leb-true, leb-false}
+use Rattle.std.specs.Prelude.{is_some}
 use Rattle.output.proofs.Placing.{written, no_room}
 use Rattle.queue.proofs.Placing.{Remaining, at-start, next-part, at-end}
 use Rattle.fields.specs.Report.{shown, shown_all, field}
-use Rattle.fields.proofs.Fields.{field-empty, field-shown, shown-next, shown-end, has_left, has-none}
+use Rattle.fields.proofs.Fields.{field-empty, field-shown, shown-next, shown-end, is_some-room}
 use Rattle.fields.proofs.put_field.Goals as goal
 
-pub returns-then-octets-eq0 : goal.returns-then-octets-eq0
-returns-then-octets-eq0 c =
+pub returns-then-is_empty : goal.returns-then-is_empty
+returns-then-is_empty c =
     let a = c.args in
-    written a.out.now a.at (sym (field-empty a.octets.now c.if-octets-eq0.true)) c.put.ensures
-
-pub returns-then-out-at : goal.returns-then-out-at
-returns-then-out-at c =
-    let a = c.args in
-    no_room a.out.now a.at (field a.octets.now) (omega arith)
-
-pub overflow_sub-out : goal.overflow_sub-out
-overflow_sub-out c = omega arith
+    written a.out.now a.at (sym (field-empty a.octets.now (eqb-true _ 0 (sym c.if-is_empty.ensures)))) c.put.ensures
 
 pub returns-in_default : goal.returns-in_default
 returns-in_default c =
     let a = c.args in
-    let full = has-none (length a.out.now - a.at) (length (field a.octets.now)) (sym c.room_after-room.ensures ∙ c.in_default.is) in
-    no_room a.out.now a.at (field a.octets.now) (omega arith)
+    no_room a.out.now a.at (field a.octets.now) (omega (arith, c.in_default.ensures))
 
-pub loop-i-init : goal.loop-i-init
-loop-i-init c =
+pub returns-then-is_none : goal.returns-then-is_none
+returns-then-is_none c =
+    let a = c.args in
+    let room = c.in-Some.room in
+    let n = length (field a.octets.now) in
+    let full = leb-false n room (sym (is_some-room room n) ∙ (ap is_some (sym c.room_after.ensures) ∙ c.if-is_none.ensures)) in
+    no_room a.out.now a.at (field a.octets.now) (omega (arith, full, c.in-Some.ensures))
+
+pub loop-x-init : goal.loop-x-init
+loop-x-init c =
     let a = c.args in
     let s = a.octets.now in
-    let left = has_left (length a.out.now - a.at) (length (field s)) (sym c.room_after-room.ensures ∙ c.in-Left.is) in
-    let fits : a.at + length (field s) ≤ length a.out.now = omega arith in (
-      subst (λ (l : List ℕ). Remaining a.out.now a.at (field s) a.out.now a.at l) (field-shown s c.if-octets-eq0.false)
-          (at-start a.out.now a.at (field s) fits),
-      fits,
-    )
+    let room = c.in-Some.room in
+    let n = length (field s) in
+    let left = leb-true n room (sym (is_some-room room n) ∙ (ap is_some (sym c.room_after.ensures) ∙ c.if-is_none.ensures)) in
+    let fits : a.at + length (field s) ≤ length a.out.now = omega (arith, left, c.in-Some.ensures) in
+    record {
+      remains =
+          subst (λ (l : List ℕ). Remaining a.out.now a.at (field s) a.out.now a.at l) (field-shown s (eqb-false _ 0 (sym c.if-is_empty.ensures)))
+          (at-start a.out.now a.at (field s) fits);
+      room = fits;
+    }
 
-pub bounds-octets-i : goal.bounds-octets-i
-bounds-octets-i c = omega arith
-
-pub overflow_add-i : goal.overflow_add-i
-overflow_add-i c = omega arith
-
-pub loop-i-smaller : goal.loop-i-smaller
-loop-i-smaller c = omega arith
-
-pub loop-i-preserved : goal.loop-i-preserved
-loop-i-preserved c =
+pub loop-x-preserved : goal.loop-x-preserved
+loop-x-preserved c =
     let a = c.args in
     let s = a.octets.now in
-    let l = c.loop-i in (
-      next-part a.out.now a.at (field s) l.out l.next (shown_all (drop l.i s)) (shown (get_or s l.i 0)) (shown_all (drop (l.i + 1) s))
-          l.invariant.0 (shown-next s l.i c.loop-i-test.true) c.put_shown-next.ensures,
-      l.invariant.1,
-    )
-
-pub shape_of-out : goal.shape_of-out
-shape_of-out c = c.loop-i.invariant.0.size
+    let l = c.loop-x in
+    let i = l.x-index in
+    record {
+      remains =
+          next-part a.out.now a.at (field s) l.out l.next (shown_all (drop i s)) (shown (get_or s i 0)) (shown_all (drop (i + 1) s))
+          l.invariant.remains (shown-next s i c.loop-x-test.true) c.put_shown-next.ensures;
+      room = l.invariant.room;
+    }
 
 pub returns : goal.returns
 returns c =
     let a = c.args in
     let s = a.octets.now in
-    let l = c.loop-i in
-    at-end a.out.now a.at (field s) l.out l.next (shown_all (drop l.i s)) l.invariant.1 l.invariant.0 (shown-end s l.i c.loop-i-test.false)
+    let l = c.loop-x in
+    at-end a.out.now a.at (field s) l.out l.next (shown_all (drop l.x-index s)) l.invariant.room l.invariant.remains (shown-end s l.x-index c.loop-x-test.false)

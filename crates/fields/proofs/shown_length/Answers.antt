@@ -6,5 +6,5 @@ use Rattle.fields.proofs.shown_length.Goals as goal
 pub returns-then-stands_as_itself : goal.returns-then-stands_as_itself
 returns-then-stands_as_itself c = rw (as-itself c.args.x (sym c.stands_as_itself.ensures ∙ c.if-stands_as_itself.true))
 
-pub returns : goal.returns
-returns c = rw (as-hex c.args.x (sym c.stands_as_itself.ensures ∙ c.if-stands_as_itself.false))
+pub returns-else-stands_as_itself : goal.returns-else-stands_as_itself
+returns-else-stands_as_itself c = rw (as-hex c.args.x (sym c.stands_as_itself.ensures ∙ c.if-stands_as_itself.false))

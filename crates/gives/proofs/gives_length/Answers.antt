@@ -1,5 +1,6 @@
 -- By the cases of what is given.
 use mathlib.Core.Path.{refl}
+use mathlib.Core.Logic.{inl, inr}
 use native.Mathlib.Omega.{arith}
 use Rattle.gives.specs.Text.{gives_text}
 use Rattle.gives.proofs.Texts.{Counted, counted, all-counted, line-counted}
@@ -8,15 +9,10 @@ use Rattle.gives.proofs.gives_length.Goals as goal
 pub returns-in-Held : goal.returns-in-Held
 unfolding gives_text
 returns-in-Held c =
-    let both : Counted c.args.fixed c.args.held.now c.args.x c.args.gives 0 =
-    counted c.args.fixed c.args.held.now c.args.x c.in-Held.is (all-counted refl (omega arith)) in
-    record { counted = both.0; all = both.1 }
-
-pub returns-in-Nothing : goal.returns-in-Nothing
-unfolding gives_text
-returns-in-Nothing c =
-    let both : Counted c.args.fixed c.args.held.now c.args.x c.args.gives 0 =
-    counted c.args.fixed c.args.held.now c.args.x c.in-Nothing.is (all-counted refl (omega arith)) in
+    let both : Counted c.args.fixed c.args.held.now c.args.x c.args.gives 0 = elim c.in-Held.is [
+      | inl e ↦ counted c.args.fixed c.args.held.now c.args.x e (all-counted refl (omega arith))
+      | inr e ↦ counted c.args.fixed c.args.held.now c.args.x e (all-counted refl (omega arith))
+    ] in
     record { counted = both.0; all = both.1 }
 
 pub returns-in-Octet : goal.returns-in-Octet

@@ -1,31 +1,35 @@
-use mathlib.Core.Path.{ap, ◌∙◌}
+use mathlib.Core.Path.{◌≡◌, ap, ◌∙◌}
+use mathlib.Core.List.{[], ◌∷◌}
+use Prim.Native.Nat.{ℕ, ◌+◌}
+use native.Mathlib.Nat.{add-zero}
 use native.Mathlib.Omega.{arith}
 use lib.ListN.{length}
-use Rattle.gives.proofs.Doubling.{passed-all, counted-front, counted_next, counted-most}
+use Rattle.rules.specs.Lines.{passed}
+use Rattle.gives.proofs.Doubling.{counted-front, counted_next, counted-most, octet-behind}
 use Rattle.gives.proofs.passed_length.Goals as goal
 
-pub loop-i-init : goal.loop-i-init
-loop-i-init c = counted-front c.args.held.now c.find_iac-i.result c.find_iac-i.ensures
+pub slice_bounds-x-items-count : goal.slice_bounds-x-items-count
+slice_bounds-x-items-count c = (counted-front c.args.held.now c.find_iac-front.result c.find_iac-front.ensures).1
 
-pub bounds-held-i : goal.bounds-held-i
-bounds-held-i c = omega arith
+pub slice_bounds-x-items-start : goal.slice_bounds-x-items-start
+slice_bounds-x-items-start c = (counted-front c.args.held.now c.find_iac-front.result c.find_iac-front.ensures).1
+
+pub loop-x-init : goal.loop-x-init
+loop-x-init c =
+    rw (add-zero c.find_iac-front.result) (counted-front c.args.held.now c.find_iac-front.result c.find_iac-front.ensures)
 
 pub overflow_add-n : goal.overflow_add-n
 overflow_add-n c =
-    let most = counted-most c.args.held.now c.loop-i.i c.loop-i.invariant.1 in
+    let l = c.loop-x in
+    let most = counted-most c.args.held.now (c.find_iac-front.result + l.x-index) l.invariant.1 in
     omega (arith, c.well_formed.0.1, c.octet_length-n.ensures.most)
 
-pub overflow_add-i : goal.overflow_add-i
-overflow_add-i c = omega arith
-
-pub loop-i-smaller : goal.loop-i-smaller
-loop-i-smaller c = omega arith
-
-pub loop-i-preserved : goal.loop-i-preserved
-loop-i-preserved c =
-    let l = c.loop-i in
-    let there = c.loop-i-test.true in
-    (counted_next _ l.i _ _ there l.invariant.0 c.octet_length-n.ensures.result, omega arith)
-
-pub returns : goal.returns
-returns c = c.loop-i.invariant.0 ∙ ap length (passed-all _ c.loop-i.i c.loop-i-test.false)
+pub loop-x-preserved : goal.loop-x-preserved
+loop-x-preserved c =
+    let l = c.loop-x in
+    let held = c.args.held.now in
+    let front = c.find_iac-front.result in
+    let there = octet-behind held front l.x-index c.loop-x-test.true in
+    let more = c.octet_length-n.ensures.result ∙ ap (λ (x : ℕ). length (passed (x ∷ []))) there.0 in
+    let next : front + (l.x-index + 1) ≡ front + l.x-index + 1 = omega arith in
+    (rw next (counted_next held (front + l.x-index) l.n _ there.1 l.invariant.0 more), omega (arith, there.1))

@@ -1,4 +1,5 @@
 -- By the cases of what is given; where that is no octet, nothing is put.
+use mathlib.Core.Logic.{inl, inr}
 use Rattle.gives.specs.Text.{gives_text}
 use Rattle.output.proofs.Placing.{written, nothing_put}
 use Rattle.gives.proofs.Texts.{text_of}
@@ -6,11 +7,10 @@ use Rattle.gives.proofs.put_gives.Goals as goal
 
 pub returns-in-Held : goal.returns-in-Held
 unfolding gives_text
-returns-in-Held c = written _ _ (text_of c.args.fixed c.args.held.now c.args.x c.in-Held.is) (nothing_put _ _)
-
-pub returns-in-Nothing : goal.returns-in-Nothing
-unfolding gives_text
-returns-in-Nothing c = written _ _ (text_of c.args.fixed c.args.held.now c.args.x c.in-Nothing.is) (nothing_put _ _)
+returns-in-Held c = elim c.in-Held.is [
+  | inl e ↦ written _ _ (text_of c.args.fixed c.args.held.now c.args.x e) (nothing_put _ _)
+  | inr e ↦ written _ _ (text_of c.args.fixed c.args.held.now c.args.x e) (nothing_put _ _)
+]
 
 pub returns-in-Octet : goal.returns-in-Octet
 unfolding gives_text

@@ -1,11 +1,15 @@
 -- `image::bit`: by its two cases.
+use mathlib.Core.Path.{◌≡◌, ◌∙◌}
+use mathlib.Core.Bool.{Bool, true, false}
+use Rattle.std.proofs.Common.{refl}
+use mir.Val.{bool_byte}
 use Rattle.image.specs.Image.{mark_of}
 use Rattle.image.proofs.bit.Goals as goal
 
-pub returns-then-set : goal.returns-then-set
+marked : (set : Bool) → bool_byte set ≡ mark_of set
 unfolding mark_of
-returns-then-set c = rw c.if-set.true
+marked true = refl
+marked false = refl
 
 pub returns : goal.returns
-unfolding mark_of
-returns c = rw c.if-set.false
+returns c = c.from.ensures ∙ marked c.args.set

@@ -18,12 +18,12 @@ returns c =
     let image = c.args.image.now in
     let size = c.requires in
     fields_read image
-    (copied image client_at ipv6_width (omega arith) c.ipv6_from-client.ensures)
-    (copied image mapped_at ipv4_width (omega arith) c.ipv4_from-mapped.ensures)
-    (copied image server_at ipv4_width (omega arith) c.ipv4_from-server.ensures)
-    (copied image kinds_at most_owed (omega arith) c.kinds_from-kinds.ensures)
-    (copied image command_at most_held (omega arith) c.line_from-command.ensures)
-    (copied image reply_at most_held (omega arith) c.line_from-reply.ensures)
+    (copied image client_at ipv6_width (omega arith) c.array_from-client.ensures)
+    (copied image mapped_at ipv4_width (omega arith) c.array_from-mapped.ensures)
+    (copied image server_at ipv4_width (omega arith) c.array_from-server.ensures)
+    (copied image kinds_at most_owed (omega arith) c.array_from-kinds.ensures)
+    (copied image command_at most_held (omega arith) c.array_from-command.ensures)
+    (copied image reply_at most_held (omega arith) c.array_from-reply.ensures)
     c.control_in-control.ensures
     c.counts_at-up.ensures
     c.counts_at-down.ensures

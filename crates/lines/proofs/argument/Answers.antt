@@ -1,16 +1,20 @@
--- The argument starts where `spaces_end` says, and ends where `text_end` says.
-use mathlib.Core.Path.{◌∙◌}
-use native.Mathlib.Omega.{arith}
+-- The argument starts where `run_end` says.
+use Rattle.std.proofs.Common.{◌∙◌, arith, rules, tests}
 use Rattle.rules.specs.Octets.{space, is, is_not}
 use Rattle.octets.proofs.Runs.{run_inside}
 use Rattle.lines.proofs.Parts.{argument-text}
 use Rattle.lines.proofs.argument.Goals as goal
 
-pub text_end-end-requires : goal.text_end-end-requires
-text_end-end-requires c =
+pub slice_bounds-without_spaces-count : goal.slice_bounds-without_spaces-count
+slice_bounds-without_spaces-count c =
     let word_end = run_inside (is_not space) _ 0 _ (omega arith) c.find-word_end.ensures in
-    run_inside (is space) _ _ _ word_end c.spaces_end-start.ensures
+    run_inside (is space) _ _ _ word_end (c.run_end-start.ensures (is space) (λ x b k h. search (rules, tests)))
+
+pub slice_bounds-without_spaces-start : goal.slice_bounds-without_spaces-start
+slice_bounds-without_spaces-start c =
+    let word_end = run_inside (is_not space) _ 0 _ (omega arith) c.find-word_end.ensures in
+    run_inside (is space) _ _ _ word_end (c.run_end-start.ensures (is space) (λ x b k h. search (rules, tests)))
 
 pub returns : goal.returns
 returns c =
-    c.text_end-end.ensures.text ∙ argument-text _ _ _ c.find-word_end.ensures c.spaces_end-start.ensures
+    c.without_spaces.ensures ∙ argument-text _ _ _ c.find-word_end.ensures (c.run_end-start.ensures (is space) (λ x b k h. search (rules, tests)))

@@ -1,8 +1,6 @@
-use mathlib.Core.Bool.{not}
-use mathlib.Core.Path.{◌≡◌, refl, sym, ap, ◌∙◌}
-use Prim.Native.Nat.{◌+◌, ◌≤◌, ◌-◌}
+use Rattle.std.proofs.Common.{◌≡◌, ◌+◌, ◌-◌, ◌≤◌, refl, sym, ap, ◌∙◌, not, length, take, drop}
 use native.Mathlib.Omega.{arith}
-use lib.ListN.{length, take, drop, get_or, length-drop}
+use lib.ListN.{get_or, length-drop}
 use lib.Seq.{take-length, length-take-le}
 use Rattle.output.specs.Buffer.{put_at}
 use Rattle.output.proofs.Placing.{refused, room, nothing_put, put_next, after-fits, one-put, only-octet}
@@ -12,21 +10,6 @@ pub returns-then-not-has_room : goal.returns-then-not-has_room
 returns-then-not-has_room c =
     let a = c.args in
     refused a.out.now a.at a.src.now c.has_room.ensures refl (ap not c.if-not-has_room.true)
-
-pub bounds-src-0 : goal.bounds-src-0
-bounds-src-0 c = omega arith
-
-pub bounds-out-at : goal.bounds-out-at
-bounds-out-at c =
-    let a = c.args in
-    let fit = room a.out.now a.at a.src.now c.has_room.ensures refl (ap not c.if-not-has_room.false) in
-    omega arith
-
-pub overflow_add-result : goal.overflow_add-result
-overflow_add-result c =
-    let a = c.args in
-    let fit = room a.out.now a.at a.src.now c.has_room.ensures refl (ap not c.if-not-has_room.false) in
-    omega arith
 
 pub returns-then-src-eq1 : goal.returns-then-src-eq1
 returns-then-src-eq1 c =
@@ -46,44 +29,20 @@ loop-done-init c =
       room a.out.now a.at a.src.now c.has_room.ensures refl (ap not c.if-not-has_room.false),
     )
 
-pub overflow_sub-src : goal.overflow_sub-src
-overflow_sub-src c = omega arith
-
-pub overflow_add-at : goal.overflow_add-at
-overflow_add-at c = omega arith
-
-pub overflow_add-done : goal.overflow_add-done
-overflow_add-done c = omega arith
-
-pub slice_bounds-put_block-count : goal.slice_bounds-put_block-count
-slice_bounds-put_block-count c = omega arith
-
-pub slice_bounds-put_block-start : goal.slice_bounds-put_block-start
-slice_bounds-put_block-start c = omega arith
-
-pub slice_bounds-put_block-end : goal.slice_bounds-put_block-end
-slice_bounds-put_block-end c = omega arith
-
 pub put_block-requires : goal.put_block-requires
 put_block-requires c =
     let src = c.args.src.now in
     let done = c.loop-done.done in
-    let n = c.block_length-n.result in
+    let n = c.min-n.result in
     let same : done + n - done ≡ n = omega arith in
     let size : length (take n (drop done src)) ≡ n = length-take-le n (drop done src) (rw length-drop (omega arith)) in
     rw (same, size) (omega arith)
-
-pub overflow_add-done-in-loop-done : goal.overflow_add-done-in-loop-done
-overflow_add-done-in-loop-done c = omega arith
-
-pub loop-done-smaller : goal.loop-done-smaller
-loop-done-smaller c = omega arith
 
 pub loop-done-preserved : goal.loop-done-preserved
 loop-done-preserved c =
     let a = c.args in
     let l = c.loop-done in
-    let n = c.block_length-n.result in
+    let n = c.min-n.result in
     let same : l.done + n - l.done ≡ n = omega arith in
     let there : l.done + n ≤ length a.src.now = omega arith in (
       c.put_block.ensures ∙ rw (l.invariant.0, same) (put_next a.out.now a.at a.src.now l.done n there l.invariant.3),
@@ -91,12 +50,6 @@ loop-done-preserved c =
       omega arith,
       l.invariant.3,
     )
-
-pub overflow_add-result-2 : goal.overflow_add-result-2
-overflow_add-result-2 c = omega arith
-
-pub shape_of-out : goal.shape_of-out
-shape_of-out c = omega arith
 
 pub returns : goal.returns
 returns c =

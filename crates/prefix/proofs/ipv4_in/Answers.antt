@@ -17,5 +17,5 @@ returns c =
     let size : length parts ≡ 15 = search rules in
     let four : at + 4 - at ≡ 4 = omega arith in
     let room : length (take 4 (drop at parts)) ≡ 4 = length-take-le 4 (drop at parts) (rw length-drop (omega arith)) in
-    c.ipv4_from.ensures ∙ rw four (filled 4 (take 4 (drop at parts)) room
+    c.array_from.ensures ∙ rw four (filled 4 (take 4 (drop at parts)) room
     ∙ rw (c.ipv4_at-at.ensures.result, c.without_reserved-parts.ensures))

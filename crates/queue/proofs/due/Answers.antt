@@ -1,51 +1,47 @@
-use mathlib.Core.Path.{◌≡◌, refl, sym, ap, ◌∙◌}
+use mathlib.Core.Path.{◌≡◌, ap, ◌∙◌}
 use mathlib.Core.List.{List}
-use Prim.Native.Nat.{ℕ}
+use Prim.Native.Nat.{ℕ, ◌<◌}
 use native.Mathlib.Omega.{arith}
 use borrow.Author.Rules.{rules}
 use lib.ListN.{length}
-use Rattle.rules.specs.Replies.{auth_at_head}
 use Rattle.rules.specs.Answers.{most_owed}
 use Rattle.queue.specs.Kinds.{queue_of}
-use Rattle.queue.proofs.Answers.{stops, auth-next, goes_on, none_kept, none-at-end}
+use Rattle.queue.proofs.Answers.{stops, auth-next, goes_on, stands, queue-most}
 use Rattle.queue.proofs.due.Goals as goal
+use Rattle.queue.proofs.due.Goals.{In-Answer}
 
-pub loop-until-init : goal.loop-until-init
-loop-until-init c = (refl, omega arith, omega arith)
-
-pub returns-in_default : goal.returns-in_default
-returns-in_default c =
-    let known = c.next_at-next.ensures in
-    let l = c.loop-until in
-    let s = stops _ known c.in_default.not-Answer in
-    let z = ap (λ (t : List ℕ). length t) s.text in record { result = (omega arith, omega arith); after = c.is_auth.ensures ∙ auth-next _ known; most = omega arith }
-
-pub overflow_add-octets : goal.overflow_add-octets
-overflow_add-octets c =
+-- an own answer is one of the kinds that there is room for
+one : (c : In-Answer) → c.loop-answer.until < most_owed
+one c =
     let a = c.args in
-    let l = c.loop-until in
-    let t = goes_on (queue_of a.kinds a.owed) l.until _ c.next_at-next.ensures c.in-Answer.is in
+    let long : length a.kinds ≡ most_owed = search rules in
+    let within = stands (queue_of a.kinds a.owed) c.loop-answer.until c.next_at.ensures c.in-Answer.is in
+    omega (arith, queue-most a.kinds a.owed)
+
+pub overflow_add-length : goal.overflow_add-length
+overflow_add-length c =
+    let a = c.args in
+    let l = c.loop-answer in
+    let t = goes_on (queue_of a.kinds a.owed) l.until _ c.next_at.ensures c.in-Answer.is in
     omega arith
 
 pub overflow_add-until : goal.overflow_add-until
-overflow_add-until c = omega arith
+overflow_add-until c = omega (arith, one (goal.at.overflow_add-until c).In-Answer)
 
-pub loop-until-smaller : goal.loop-until-smaller
-loop-until-smaller c = omega arith
+pub loop-answer-smaller : goal.loop-answer-smaller
+loop-answer-smaller c = omega (arith, one (goal.at.loop-answer-smaller c).In-Answer)
 
-pub loop-until-preserved : goal.loop-until-preserved
-loop-until-preserved c =
+pub loop-answer-preserved : goal.loop-answer-preserved
+loop-answer-preserved c =
     let a = c.args in
-    let l = c.loop-until in
-    let t = goes_on (queue_of a.kinds a.owed) l.until _ c.next_at-next.ensures c.in-Answer.is in
+    let l = c.loop-answer in
+    let before = one (goal.at.loop-answer-preserved c).In-Answer in
+    let t = goes_on (queue_of a.kinds a.owed) l.until _ c.next_at.ensures c.in-Answer.is in
     (omega arith, omega arith, omega arith)
 
 pub returns : goal.returns
-unfolding auth_at_head
 returns c =
-    let a = c.args in
-    let l = c.loop-until in
-    let long : length a.kinds ≡ most_owed = search rules in
-    let empty = none_kept a.kinds l.until a.owed (omega arith) in
-    let s = none-at-end _ empty in
-    let z = ap (λ (t : List ℕ). length t) s.text in record { result = (omega arith, omega arith); after = sym (ap auth_at_head empty); most = omega arith }
+    let l = c.loop-answer in
+    let s = stops _ c.next_at.ensures c.in_default.not-Answer in
+    let z = ap (λ (t : List ℕ). length t) s.text in
+    record { result = (omega arith, omega arith); after = c.is_auth.ensures ∙ auth-next _ c.next_at-2.ensures; most = omega arith }

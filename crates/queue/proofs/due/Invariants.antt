@@ -7,11 +7,11 @@ use Rattle.rules.specs.Answers.{most_owed, most_answers, longest_answer}
 use Rattle.queue.specs.Kinds.{queue_of, answers_at_head}
 use Rattle.queue.proofs.due.Given as goal
 
-abbrev pub invariant-loop-until : goal.invariant-loop-until
-invariant-loop-until l =
+abbrev pub invariant-loop-answer : goal.invariant-loop-answer
+invariant-loop-answer l =
     (l.from + answers_at_head (drop l.from (queue_of l.kinds l.owed)) ≡ l.until + answers_at_head (drop l.until (queue_of l.kinds l.owed)))
-    × (length (head_answers (drop l.from (queue_of l.kinds l.owed))) ≡ l.octets + length (head_answers (drop l.until (queue_of l.kinds l.owed))))
-    × (l.octets + longest_answer * (most_owed - l.until) ≤ most_answers)
+    × (length (head_answers (drop l.from (queue_of l.kinds l.owed))) ≡ l.length + length (head_answers (drop l.until (queue_of l.kinds l.owed))))
+    × (l.length + longest_answer * (most_owed - l.until) ≤ most_answers)
 
-abbrev pub decreases-loop-until : goal.decreases-loop-until
-decreases-loop-until l = most_owed - l.until
+abbrev pub decreases-loop-answer : goal.decreases-loop-answer
+decreases-loop-answer l = most_owed - l.until

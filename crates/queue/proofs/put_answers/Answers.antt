@@ -1,5 +1,5 @@
 use mathlib.Core.Path.{◌≡◌}
-use Prim.Native.Nat.{◌+◌}
+use Prim.Native.Nat.{◌+◌, ◌<◌}
 use native.Mathlib.Omega.{arith}
 use borrow.Author.Rules.{rules}
 use lib.ListN.{length, drop}
@@ -7,9 +7,10 @@ use Rattle.rules.specs.Replies.{head_answers}
 use Rattle.rules.specs.Answers.{most_owed}
 use Rattle.output.proofs.Placing.{no_room}
 use Rattle.queue.specs.Kinds.{queue_of}
-use Rattle.queue.proofs.Answers.{stops, goes_on, none_kept, none-at-end}
+use Rattle.queue.proofs.Answers.{stops, goes_on, stands, queue-most}
 use Rattle.queue.proofs.Placing.{at-start, next-part, at-end}
 use Rattle.queue.proofs.put_answers.Goals as goal
+use Rattle.queue.proofs.put_answers.Goals.{In-Answer}
 
 pub returns-then-out-at : goal.returns-then-out-at
 returns-then-out-at c =
@@ -25,52 +26,45 @@ returns-then-out-at-2 c =
     let size = c.due-answers.ensures.result.1 in
     no_room a.out.now a.at (head_answers (drop a.from (queue_of a.kinds a.owed))) (omega arith)
 
-pub loop-i-init : goal.loop-i-init
-loop-i-init c =
+pub loop-answer-init : goal.loop-answer-init
+loop-answer-init c =
     let a = c.args in
     at-start a.out.now a.at (head_answers (drop a.from (queue_of a.kinds a.owed))) ((let size = c.due-answers.ensures.result.1 in
     let fits = c.if-out-at-2.false in
     let within = c.if-out-at.false in
     omega arith))
 
-pub shape_of-out-in_default : goal.shape_of-out-in_default
-shape_of-out-in_default c = c.loop-i.invariant.size
-
-pub returns-in_default : goal.returns-in_default
-returns-in_default c =
+-- an own answer is one of the kinds that there is room for
+one : (c : In-Answer) → c.loop-answer.i < most_owed
+one c =
     let a = c.args in
-    let l = c.loop-i in
-    let q = queue_of a.kinds a.owed in
-    let s = stops (drop l.i q) c.next_at-next.ensures c.in_default.not-Answer in
-    at-end a.out.now a.at (head_answers (drop a.from q)) l.out l.place (head_answers (drop l.i q)) ((let size = c.due-answers.ensures.result.1 in
-    let fits = c.if-out-at-2.false in
-    let within = c.if-out-at.false in
-    omega arith)) l.invariant s.text
+    let long : length a.kinds ≡ most_owed = search rules in
+    let within = stands (queue_of a.kinds a.owed) c.loop-answer.i c.next_at.ensures c.in-Answer.is in
+    omega (arith, queue-most a.kinds a.owed)
 
 pub overflow_add-i : goal.overflow_add-i
-overflow_add-i c = omega arith
+overflow_add-i c = omega (arith, one (goal.at.overflow_add-i c).In-Answer)
 
-pub loop-i-smaller : goal.loop-i-smaller
-loop-i-smaller c = omega arith
+pub loop-answer-smaller : goal.loop-answer-smaller
+loop-answer-smaller c = omega (arith, one (goal.at.loop-answer-smaller c).In-Answer)
 
-pub loop-i-preserved : goal.loop-i-preserved
-loop-i-preserved c =
+pub loop-answer-preserved : goal.loop-answer-preserved
+loop-answer-preserved c =
     let a = c.args in
-    let l = c.loop-i in
+    let l = c.loop-answer in
     let q = queue_of a.kinds a.owed in
-    let t = goes_on q l.i _ c.next_at-next.ensures c.in-Answer.is in
+    let t = goes_on q l.i _ c.next_at.ensures c.in-Answer.is in
     next-part a.out.now a.at (head_answers (drop a.from q)) l.out l.place (head_answers (drop l.i q)) _ (head_answers (drop (l.i + 1) q)) l.invariant t.text c.put_answer-place.ensures
 
 pub shape_of-out : goal.shape_of-out
-shape_of-out c = c.loop-i.invariant.size
+shape_of-out c = c.loop-answer.invariant.size
 
 pub returns : goal.returns
 returns c =
     let a = c.args in
-    let l = c.loop-i in
+    let l = c.loop-answer in
     let q = queue_of a.kinds a.owed in
-    let long : length a.kinds ≡ most_owed = search rules in
-    let s = none-at-end (drop l.i q) (none_kept a.kinds l.i a.owed (omega arith)) in
+    let s = stops (drop l.i q) c.next_at.ensures c.in_default.not-Answer in
     at-end a.out.now a.at (head_answers (drop a.from q)) l.out l.place (head_answers (drop l.i q)) ((let size = c.due-answers.ensures.result.1 in
     let fits = c.if-out-at-2.false in
     let within = c.if-out-at.false in

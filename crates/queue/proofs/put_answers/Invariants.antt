@@ -7,9 +7,9 @@ use Rattle.queue.specs.Kinds.{queue_of}
 use Rattle.queue.proofs.Placing.{Remaining}
 use Rattle.queue.proofs.put_answers.Given as goal
 
-abbrev pub invariant-loop-i : goal.invariant-loop-i
-invariant-loop-i l =
+abbrev pub invariant-loop-answer : goal.invariant-loop-answer
+invariant-loop-answer l =
     Remaining l.initial.out l.at (head_answers (drop l.from (queue_of l.kinds l.owed))) l.out l.place (head_answers (drop l.i (queue_of l.kinds l.owed)))
 
-abbrev pub decreases-loop-i : goal.decreases-loop-i
-decreases-loop-i l = most_owed - l.i
+abbrev pub decreases-loop-answer : goal.decreases-loop-answer
+decreases-loop-answer l = most_owed - l.i

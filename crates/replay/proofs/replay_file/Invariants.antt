@@ -1,5 +1,6 @@
--- `replay::replay_file`: a turn fewer is left with each.
+-- `replay::replay_file`: each entry that is written leaves one less.
+use Rattle.report.proofs.Whole.{calls_left}
 use Rattle.replay.proofs.replay_file.Given as goal
 
-abbrev pub decreases-loop-turns : goal.decreases-loop-turns
-decreases-loop-turns g l = l.turns
+abbrev pub decreases-loop-next : goal.decreases-loop-next
+decreases-loop-next g l = calls_left l.next

@@ -1,50 +1,34 @@
--- `replies::line_outside` meets its contract: by the code and what follows it.
-use mathlib.Core.Path.{ap}
-use mathlib.Core.Bool.{not}
-use mathlib.Core.Path.{refl, sym, ◌∙◌}
-use mathlib.Core.Bool.{true, false}
-use native.Mathlib.Omega.{arith}
-use borrow.Author.Tests.{not-true, not-false, eq-eqb, ne_eqb}
-use Rattle.rules.specs.Octets.{choose}
-use Rattle.replies.proofs.Codes.{code-long, outside-by}
+-- By the code and the octet behind it.
+use Rattle.std.proofs.Common.{◌≡◌, get_or, sym, ap, ◌∙◌, arith}
+use Rattle.std.specs.Option.{unwrap_or}
+use Rattle.rules.specs.Octets.{space}
+use Rattle.rules.specs.declared.ReplyLine.{ReplyLine}
+use Rattle.replies.proofs.Codes.{code-long, no-choice, the-choice, outside-none, outside-ends, outside-opens, outside-alone}
 use Rattle.replies.proofs.line_outside.Goals as goal
 
-pub returns-then-not-has_code : goal.returns-then-not-has_code
-unfolding choose
-returns-then-not-has_code c = sym (outside-by _ false _ _ (sym c.has_code.ensures ∙ not-true _ (ap not c.if-not-has_code.true)) refl refl)
+pub returns-in_default : goal.returns-in_default
+returns-in_default c = outside-none _ (no-choice _ _ (sym c.code_of.ensures ∙ c.in_default.is))
 
-pub returns-then-content-eq3 : goal.returns-then-content-eq3
-unfolding choose
-returns-then-content-eq3 c =
-    c.reply_end.ensures ∙ sym (outside-by _ true true _ ((sym c.has_code.ensures ∙ not-false _ (ap not c.if-not-has_code.false))) (rw (eq-eqb _ 3 c.if-content-eq3.true)) refl)
+pub reply_end-requires : goal.reply_end-requires
+reply_end-requires c = omega (arith, code-long _ (the-choice _ _ _ (sym c.code_of.ensures ∙ c.in-Some.is)).0)
 
-pub bounds-content-3 : goal.bounds-content-3
-bounds-content-3 c =
-    omega (arith, c.if-content-eq3.false, code-long _ ((sym c.has_code.ensures ∙ not-false _ (ap not c.if-not-has_code.false))))
+pub returns-in-32 : goal.returns-in-32
+returns-in-32 c =
+    let code = the-choice _ _ _ (sym c.code_of.ensures ∙ c.in-Some.is) in
+    let read : unwrap_or c.copied.result space ≡ get_or c.args.content.now 3 space = rw c.copied.ensures (c.get.ensures.lookup.4 (omega arith) space) in
+    let behind = c.unwrap_or.ensures ∙ read in
+    c.reply_end.ensures ∙ outside-ends _ code.0 (omega (arith, behind))
 
-pub reply_end-requires-then-content-eq32 : goal.reply_end-requires-then-content-eq32
-reply_end-requires-then-content-eq32 c = omega (arith, code-long _ ((sym c.has_code.ensures ∙ not-false _ (ap not c.if-not-has_code.false))))
+pub returns-in-45 : goal.returns-in-45
+returns-in-45 c =
+    let code = the-choice _ _ _ (sym c.code_of.ensures ∙ c.in-Some.is) in
+    let read : unwrap_or c.copied.result space ≡ get_or c.args.content.now 3 space = rw c.copied.ensures (c.get.ensures.lookup.4 (omega arith) space) in
+    let behind = c.unwrap_or.ensures ∙ read in
+    ap ReplyLine.Opens code.1 ∙ outside-opens _ code.0 (omega (arith, behind))
 
-pub returns-then-content-eq32 : goal.returns-then-content-eq32
-unfolding choose
-returns-then-content-eq32 c =
-    c.reply_end-then-content-eq32.ensures
-    ∙ sym (outside-by _ true true _ ((sym c.has_code.ensures ∙ not-false _ (ap not c.if-not-has_code.false))) (rw (ne_eqb _ 3 c.if-content-eq3.false, eq-eqb _ 32 c.if-content-eq32.true)) refl)
-
-pub bounds-content-3-2 : goal.bounds-content-3-2
-bounds-content-3-2 c =
-    omega (arith, c.if-content-eq3.false, code-long _ ((sym c.has_code.ensures ∙ not-false _ (ap not c.if-not-has_code.false))))
-
-pub returns-then-content-eq45 : goal.returns-then-content-eq45
-unfolding choose
-returns-then-content-eq45 c =
-    rw c.reply_code.ensures
-    (sym (outside-by _ true false true ((sym c.has_code.ensures ∙ not-false _ (ap not c.if-not-has_code.false))) (rw (ne_eqb _ 3 c.if-content-eq3.false, ne_eqb _ 32 c.if-content-eq32.false)) (eq-eqb _ 45 c.if-content-eq45.true)))
-
-pub returns : goal.returns
-unfolding choose
-returns c =
-    sym (outside-by _ true false false ((sym c.has_code.ensures ∙ not-false _ (ap not c.if-not-has_code.false))) (rw (ne_eqb _ 3 c.if-content-eq3.false, ne_eqb _ 32 c.if-content-eq32.false)) (ne_eqb _ 45 c.if-content-eq45.false))
-
-pub reply_code-requires : goal.reply_code-requires
-reply_code-requires c = (sym c.has_code.ensures ∙ not-false _ (ap not c.if-not-has_code.false))
+pub returns-in_default-unwrap_or : goal.returns-in_default-unwrap_or
+returns-in_default-unwrap_or c =
+    let code = the-choice _ _ _ (sym c.code_of.ensures ∙ c.in-Some.is) in
+    let read : unwrap_or c.copied.result space ≡ get_or c.args.content.now 3 space = rw c.copied.ensures (c.get.ensures.lookup.4 (omega arith) space) in
+    let behind = c.unwrap_or.ensures ∙ read in
+    outside-alone _ code.0 (λ z. omega (arith, behind)) (λ z. omega (arith, behind))

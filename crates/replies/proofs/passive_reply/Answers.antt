@@ -1,20 +1,17 @@
--- `replies::passive_reply` meets its contract, by what its callees say.
-use mathlib.Core.Path.{ap}
-use mathlib.Core.Bool.{not}
-use mathlib.Core.Path.{sym, ◌∙◌}
-use borrow.Author.Tests.{not-true, not-false}
+-- By what stands behind the code and its space.
+use Rattle.std.proofs.Common.{◌∙◌, rules, tests, arith}
 use Rattle.rules.specs.Octets.{not_digit}
-use Rattle.replies.proofs.Codes.{passive-long, without-227, with-227}
 use Rattle.octets.proofs.Runs.{run_inside}
+use Rattle.replies.proofs.Codes.{without-227, with-227}
 use Rattle.replies.proofs.passive_reply.Goals as goal
 
-pub returns-then-not-has_227 : goal.returns-then-not-has_227
-returns-then-not-has_227 c = without-227 _ (sym c.has_227.ensures ∙ not-true _ (ap not c.if-not-has_227.true))
+pub returns-in_err-text : goal.returns-in_err-text
+returns-in_err-text c = c.from_residual.ensures ∙ without-227 _ c.in_err-text.ensures.cases
 
 pub named_at-requires : goal.named_at-requires
-named_at-requires c =
-    run_inside not_digit c.args.content.now 4 _ (passive-long _ ((sym c.has_227.ensures ∙ not-false _ (ap not c.if-not-has_227.false)))) c.first_digit-from.ensures
+named_at-requires c = run_inside not_digit _ 0 _ (omega arith) (c.run_end-from.ensures not_digit (λ x b k h. search (rules, tests)))
 
 pub returns : goal.returns
 returns c =
-    c.named_at.ensures ∙ with-227 _ _ ((sym c.has_227.ensures ∙ not-false _ (ap not c.if-not-has_227.false))) c.first_digit-from.ensures
+    let cases = c.in_ok-text.ensures.cases in
+    c.named_at.ensures ∙ with-227 _ _ _ cases.0 cases.1 (c.run_end-from.ensures not_digit (λ x b k h. search (rules, tests)))

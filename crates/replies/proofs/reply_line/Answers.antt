@@ -1,4 +1,4 @@
--- `replies::reply_line` meets its contract: inside or outside, by the opening code.
+-- Inside or outside, by the opening code.
 use borrow.Author.Tests.{eq-eqb, ne_eqb}
 use Rattle.rules.specs.Octets.{choose}
 use Rattle.rules.specs.Replies.{reply_line}
@@ -8,6 +8,6 @@ pub returns-then-opening-eq0 : goal.returns-then-opening-eq0
 unfolding reply_line choose
 returns-then-opening-eq0 c = rw (eq-eqb _ 0 c.if-opening-eq0.true) c.line_outside.ensures
 
-pub returns : goal.returns
+pub returns-else-opening-eq0 : goal.returns-else-opening-eq0
 unfolding reply_line choose
-returns c = rw (ne_eqb _ 0 c.if-opening-eq0.false) c.line_inside.ensures
+returns-else-opening-eq0 c = rw (ne_eqb _ 0 c.if-opening-eq0.false) c.line_inside.ensures

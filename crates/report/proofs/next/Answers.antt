@@ -7,7 +7,6 @@ use lib.Seq.{length-take-le}
 use borrow.Author.Tests.{not-true, not-false}
 use Rattle.fields.specs.Report.{out_room}
 use Rattle.report.proofs.Due.{due, body-within, body-most}
-use Rattle.report.proofs.Runs.{written-within}
 use Rattle.report.proofs.Parts.{over, next-put}
 use Rattle.report.proofs.next.Goals as goal
 
@@ -43,17 +42,11 @@ overflow_add-after c =
     let a = c.args in
     omega (arith, (due a.file.now a.replay (sym c.is_due.ensures ∙ not-false _ (ap not c.if-not-is_due.false))).number)
 
-pub slice_bounds-to_server-end : goal.slice_bounds-to_server-end
-slice_bounds-to_server-end c = let k = c.run_entry-ran in (written-within _ k.new.to_server k.new.to_client (k.ensures.result, (k.ensures.server, k.ensures.client))).0
-
 pub slice_bounds-put_entry-end : goal.slice_bounds-put_entry-end
-slice_bounds-put_entry-end c = let k = c.run_entry-ran in sym (length-take-le _ _ (written-within _ k.new.to_server k.new.to_client (k.ensures.result, (k.ensures.server, k.ensures.client))).0)
-
-pub slice_bounds-to_client-end : goal.slice_bounds-to_client-end
-slice_bounds-to_client-end c = let k = c.run_entry-ran in (written-within _ k.new.to_server k.new.to_client (k.ensures.result, (k.ensures.server, k.ensures.client))).1
+slice_bounds-put_entry-end c = let k = c.run_entry-ran in sym (length-take-le _ _ k.ensures.server)
 
 pub slice_bounds-put_entry-end-2 : goal.slice_bounds-put_entry-end-2
-slice_bounds-put_entry-end-2 c = let k = c.run_entry-ran in sym (length-take-le _ _ (written-within _ k.new.to_server k.new.to_client (k.ensures.result, (k.ensures.server, k.ensures.client))).1)
+slice_bounds-put_entry-end-2 c = let k = c.run_entry-ran in sym (length-take-le _ _ k.ensures.client)
 
 pub returns : goal.returns
 returns c =

@@ -4,4 +4,4 @@ use Rattle.setups.specs.declared.Prepared.{Prepared}
 use Rattle.report.proofs.no_session.Goals as goal
 
 pub returns : goal.returns
-returns c = ap (λ (p : Prepared). p.session) c.refused_setup-p.ensures
+returns c = ap (λ (p : Prepared). p.session) c.refused_setup.ensures

@@ -13,24 +13,24 @@ use Rattle.report.specs.Replays.{entry_text}
 use Rattle.report.proofs.Texts.{at_zero, other, stops, stop-length}
 use Rattle.report.proofs.put_entry.Goals as goal
 
-pub returns-then-answer-eq0 : goal.returns-then-answer-eq0
-returns-then-answer-eq0 c =
+pub returns-then-printed-eq0 : goal.returns-then-printed-eq0
+returns-then-printed-eq0 c =
     let a = c.args in
-    let d = done_of a.taken a.answer a.to_server.now a.to_client.now in
-    written a.out.now 0 (sym (at_zero a.number a.taken a.answer a.to_server.now a.to_client.now c.if-answer-eq0.true)) c.put_entry_line.ensures
+    let d = done_of a.taken c.from-printed.result a.to_server.now a.to_client.now in
+    rw (← c.from-printed.ensures) (written a.out.now 0 (sym (at_zero a.number a.taken c.from-printed.result a.to_server.now a.to_client.now c.if-printed-eq0.true)) c.put_entry_line.ensures)
 
 pub returns-then-not-line_fits : goal.returns-then-not-line_fits
 returns-then-not-line_fits c =
     let a = c.args in
-    no_room a.out.now 0 (entry_text a.number (done_of a.taken a.answer a.to_server.now a.to_client.now))
-    (omega (arith, leb-false _ (length a.out.now) (sym c.line_fits.ensures ∙ not-true _ (ap not c.if-not-line_fits.true)), stop-length a.number (done_of a.taken a.answer a.to_server.now a.to_client.now) (other a.taken a.answer a.to_server.now a.to_client.now c.if-answer-eq0.false)))
+    rw (← c.from-printed.ensures) (no_room a.out.now 0 (entry_text a.number (done_of a.taken c.from-printed.result a.to_server.now a.to_client.now))
+    (omega (arith, leb-false _ (length a.out.now) (sym c.line_fits.ensures ∙ not-true _ (ap not c.if-not-line_fits.true)), stop-length a.number (done_of a.taken c.from-printed.result a.to_server.now a.to_client.now) (other a.taken c.from-printed.result a.to_server.now a.to_client.now c.if-printed-eq0.false))))
 
 pub returns : goal.returns
 returns c =
     let a = c.args in
-    let d = done_of a.taken a.answer a.to_server.now a.to_client.now in
-    let ne = other a.taken a.answer a.to_server.now a.to_client.now c.if-answer-eq0.false in
+    let d = done_of a.taken c.from-printed.result a.to_server.now a.to_client.now in
+    let ne = other a.taken c.from-printed.result a.to_server.now a.to_client.now c.if-printed-eq0.false in
     let fits = leb-true (8 + length (entry_line a.number d)) (length a.out.now) (sym c.line_fits.ensures ∙ not-false _ (ap not c.if-not-line_fits.false)) in
-    written a.out.now 0 (sym (stops a.number d ne))
+    rw (← c.from-printed.ensures) (written a.out.now 0 (sym (stops a.number d ne))
     (joined a.out.now 0 (entry_line a.number d) (oct "STOPPED\n") (λ _. c.put_entry_line-stop.ensures) (λ _. c.put.ensures)
-    (omega (arith, stop-length a.number d ne, ap length (stops a.number d ne))))
+    (omega (arith, stop-length a.number d ne, ap length (stops a.number d ne)))))

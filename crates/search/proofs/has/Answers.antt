@@ -1,31 +1,16 @@
-use mathlib.Core.Path.{refl, ◌∙◌}
-use native.Mathlib.Omega.{arith}
-use lib.ListN.{get_or}
+use Rattle.std.proofs.Common.{refl, get_or, ◌∙◌}
 use Rattle.rules.specs.Octets.{every}
 use Rattle.rules.specs.Lines.{is_ordinary}
-use Rattle.search.proofs.Blocks.{stops-more, stops-all, ordinary, side_by_side}
+use Rattle.search.proofs.Blocks.{stops-more, ordinary, side_by_side}
 use Rattle.search.proofs.has.Goals as goal
 
-pub loop-j-init : goal.loop-j-init
+pub loop-b-init : goal.loop-b-init
 unfolding every
-loop-j-init c = refl
+loop-b-init c = refl
 
-pub bounds-block-j : goal.bounds-block-j
-bounds-block-j c = omega arith
-
-pub overflow_add-j : goal.overflow_add-j
-overflow_add-j c = omega arith
-
-pub loop-j-smaller : goal.loop-j-smaller
-loop-j-smaller c = omega arith
-
-pub loop-j-preserved : goal.loop-j-preserved
-loop-j-preserved c =
-    let a = c.args in
-    let l = c.loop-j in
+pub loop-b-preserved : goal.loop-b-preserved
+loop-b-preserved c =
+    let l = c.loop-b in
+    let s = c.args.block.now in
     side_by_side l.lf l.iac _ _
-    ∙ stops-more is_ordinary a.block.now l.j _ _ c.loop-j-test.true
-    (ordinary (get_or a.block.now l.j 0)) l.invariant
-
-pub returns : goal.returns
-returns c = stops-all is_ordinary _ c.loop-j.j _ c.loop-j.invariant c.loop-j-test.false
+    ∙ stops-more is_ordinary s l.b-index _ _ c.loop-b-test.true (ordinary (get_or s l.b-index 0)) l.invariant

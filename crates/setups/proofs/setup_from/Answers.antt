@@ -11,8 +11,8 @@ returns-then-octets-ne-SETUP c =
     let a = c.args in
     c.refused_setup.ensures ∙ wrong_size a.octets.now c.if-octets-ne-SETUP.true
 
-pub slice_bounds-ipv6_from-end : goal.slice_bounds-ipv6_from-end
-slice_bounds-ipv6_from-end c =
+pub slice_bounds-array_from-end : goal.slice_bounds-array_from-end
+slice_bounds-array_from-end c =
     let a = c.args in
     sym (length-take-le ipv6_width a.octets.now (omega arith))
 
@@ -20,4 +20,4 @@ pub returns : goal.returns
 returns c =
     let a = c.args in
     let size = c.if-octets-ne-SETUP.false in
-    set-up a.octets.now size c.ipv6_from-client.ensures c.ipv4_from-mapped.ensures c.ipv4_from-server.ensures c.setup.ensures
+    set-up a.octets.now size c.array_from-client.ensures c.array_from-mapped.ensures c.array_from-server.ensures c.setup.ensures

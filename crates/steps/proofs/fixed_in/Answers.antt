@@ -1,5 +1,5 @@
 -- Each address at its position.
-use mathlib.Core.Path.{sym, ◌∙◌}
+use mathlib.Core.Path.{◌∙◌}
 use native.Mathlib.Omega.{arith}
 use lib.ListN.{take, drop, length-drop}
 use lib.Seq.{length-take-le}
@@ -8,15 +8,11 @@ use Rattle.rules.specs.Setup.{ipv6_width, ipv4_width}
 use Rattle.records.specs.Layout.{lent_mapped, lent_server_address}
 use Rattle.steps.proofs.fixed_in.Goals as goal
 
-pub slice_bounds-ipv6_from-end : goal.slice_bounds-ipv6_from-end
-slice_bounds-ipv6_from-end c =
-    sym (length-take-le ipv6_width c.args.lent.now (omega (arith, c.requires)))
-
 pub returns : goal.returns
 returns c =
     let lent = c.args.lent.now in
     let all = c.requires in
-    let client = c.ipv6_from-client.ensures ∙ filled ipv6_width (take ipv6_width lent) (length-take-le ipv6_width lent (omega arith)) in
-    let mapped = c.ipv4_from-mapped.ensures ∙ filled ipv4_width (take ipv4_width (drop lent_mapped lent)) (length-take-le ipv4_width (drop lent_mapped lent) (omega (arith, length-drop lent_mapped lent))) in
-    let server = c.ipv4_from-server.ensures ∙ filled ipv4_width (take ipv4_width (drop lent_server_address lent)) (length-take-le ipv4_width (drop lent_server_address lent) (omega (arith, length-drop lent_server_address lent))) in
+    let client = c.array_from-client.ensures ∙ filled ipv6_width (take ipv6_width lent) (length-take-le ipv6_width lent (omega arith)) in
+    let mapped = c.array_from-mapped.ensures ∙ filled ipv4_width (take ipv4_width (drop lent_mapped lent)) (length-take-le ipv4_width (drop lent_mapped lent) (omega (arith, length-drop lent_mapped lent))) in
+    let server = c.array_from-server.ensures ∙ filled ipv4_width (take ipv4_width (drop lent_server_address lent)) (length-take-le ipv4_width (drop lent_server_address lent) (omega (arith, length-drop lent_server_address lent))) in
     cc

@@ -1,38 +1,39 @@
 -- `telnet::after_iac` meets its contract: the octet is known, or is none of them.
+use native.Mathlib.Omega.{arith}
 use Rattle.rules.specs.Octets.{choose}
 use Rattle.rules.specs.Telnet.{after_iac}
 use Rattle.telnet.proofs.Layers.{is-not, octet-of}
 use Rattle.telnet.proofs.after_iac.Goals as goal
 
-pub returns-then-x-eq-IAC : goal.returns-then-x-eq-IAC
+pub returns-in-255 : goal.returns-in-255
 unfolding after_iac choose
-returns-then-x-eq-IAC c = octet-of _ c.if-x-eq-IAC.true c.to.ensures
+returns-in-255 c = octet-of _ c.in-255.is c.to.ensures
 
-pub returns-then-x-eq-SB : goal.returns-then-x-eq-SB
+pub returns-in-250 : goal.returns-in-250
 unfolding after_iac choose
-returns-then-x-eq-SB c = octet-of _ c.if-x-eq-SB.true c.to-then-x-eq-SB.ensures
+returns-in-250 c = octet-of _ c.in-250.is c.to-in-250.ensures
 
-pub returns-then-x-eq-WILL : goal.returns-then-x-eq-WILL
+pub returns-in-251 : goal.returns-in-251
 unfolding after_iac choose
-returns-then-x-eq-WILL c = octet-of _ c.if-x-eq-WILL.true c.to-then-x-eq-WILL.ensures
+returns-in-251 c = octet-of _ c.in-251.is c.to-in-251.ensures
 
-pub returns-then-x-eq-WONT : goal.returns-then-x-eq-WONT
+pub returns-in-252 : goal.returns-in-252
 unfolding after_iac choose
-returns-then-x-eq-WONT c = octet-of _ c.if-x-eq-WONT.true c.to-then-x-eq-WONT.ensures
+returns-in-252 c = octet-of _ c.in-252.is c.to-in-252.ensures
 
-pub returns-then-x-eq-DO : goal.returns-then-x-eq-DO
+pub returns-in-253 : goal.returns-in-253
 unfolding after_iac choose
-returns-then-x-eq-DO c = octet-of _ c.if-x-eq-DO.true c.to-then-x-eq-DO.ensures
+returns-in-253 c = octet-of _ c.in-253.is c.to-in-253.ensures
 
-pub returns-then-x-eq-DONT : goal.returns-then-x-eq-DONT
+pub returns-in-254 : goal.returns-in-254
 unfolding after_iac choose
-returns-then-x-eq-DONT c = octet-of _ c.if-x-eq-DONT.true c.to-then-x-eq-DONT.ensures
+returns-in-254 c = octet-of _ c.in-254.is c.to-in-254.ensures
 
-pub returns : goal.returns
+pub returns-in_default : goal.returns-in_default
 unfolding after_iac
-returns c =
-    is-not _ _ _ c.if-x-eq-IAC.false
-    (is-not _ _ _ c.if-x-eq-SB.false
-    (is-not _ _ _ c.if-x-eq-WILL.false
-    (is-not _ _ _ c.if-x-eq-WONT.false
-    (is-not _ _ _ c.if-x-eq-DO.false (is-not _ _ _ c.if-x-eq-DONT.false c.to-2.ensures)))))
+returns-in_default c =
+    is-not _ _ _ (λ e. omega arith)
+    (is-not _ _ _ (λ e. omega arith)
+    (is-not _ _ _ (λ e. omega arith)
+    (is-not _ _ _ (λ e. omega arith)
+    (is-not _ _ _ (λ e. omega arith) (is-not _ _ _ (λ e. omega arith) c.to-in_default.ensures)))))

@@ -1,24 +1,17 @@
 -- `telnet::octet` meets its contract, by the state before the octet.
 use Rattle.std.proofs.Common.{refl}
+use mathlib.Core.Logic.{inl, inr}
 use Rattle.rules.specs.Telnet.{telnet_octet}
 use Rattle.telnet.proofs.Layers.{is-it, is-not, step_of, state-of}
 use Rattle.telnet.proofs.octet.Goals as goal
 
-pub returns-then-x-eq-IAC : goal.returns-then-x-eq-IAC
+pub returns-in-Clear : goal.returns-in-Clear
 unfolding telnet_octet
-returns-then-x-eq-IAC c = step_of _ c.in-Clear.is (is-it _ _ _ c.if-x-eq-IAC.true c.to.ensures)
+returns-in-Clear c = step_of _ c.in-Clear.is (is-it _ _ _ c.if-x-eq-IAC.true c.to.ensures)
 
-pub returns-then-x-eq-IAC-2 : goal.returns-then-x-eq-IAC-2
+pub returns-in-Clear-2 : goal.returns-in-Clear-2
 unfolding telnet_octet
-returns-then-x-eq-IAC-2 c = step_of _ c.in-Within.is (state-of _ c.to-then-x-eq-IAC-2.ensures (is-it _ _ _ c.if-x-eq-IAC-2.true refl))
-
-pub returns-then-x-eq-SE : goal.returns-then-x-eq-SE
-unfolding telnet_octet
-returns-then-x-eq-SE c = step_of _ c.in-WithinIac.is (state-of _ c.to-then-x-eq-SE.ensures (is-it _ _ _ c.if-x-eq-SE.true refl))
-
-pub returns-else-x-eq-IAC : goal.returns-else-x-eq-IAC
-unfolding telnet_octet
-returns-else-x-eq-IAC c = step_of _ c.in-Clear.is (is-not _ _ _ c.if-x-eq-IAC.false c.to-in-Clear.ensures)
+returns-in-Clear-2 c = step_of _ c.in-Clear-2.is (is-not _ _ _ c.if-x-eq-IAC.false c.to-in-Clear-2.ensures)
 
 pub returns-in-Iac : goal.returns-in-Iac
 unfolding telnet_octet
@@ -28,22 +21,26 @@ pub returns-in-Will : goal.returns-in-Will
 unfolding telnet_octet
 returns-in-Will c = step_of _ c.in-Will.is c.to-in-Will.ensures
 
-pub returns-in-Wont : goal.returns-in-Wont
-unfolding telnet_octet
-returns-in-Wont c = step_of _ c.in-Wont.is c.to-in-Wont.ensures
-
 pub returns-in-Do : goal.returns-in-Do
 unfolding telnet_octet
 returns-in-Do c = step_of _ c.in-Do.is c.to-in-Do.ensures
 
-pub returns-in-Dont : goal.returns-in-Dont
+pub returns-in-Wont : goal.returns-in-Wont
 unfolding telnet_octet
-returns-in-Dont c = step_of _ c.in-Dont.is c.to-in-Dont.ensures
+returns-in-Wont c = elim c.in-Wont.is [ inl e ↦ step_of _ e c.to-in-Wont.ensures | inr e ↦ step_of _ e c.to-in-Wont.ensures ]
 
-pub returns-else-x-eq-IAC-2 : goal.returns-else-x-eq-IAC-2
+pub returns-in-Within : goal.returns-in-Within
 unfolding telnet_octet
-returns-else-x-eq-IAC-2 c = step_of _ c.in-Within.is (state-of _ c.to-in-Within.ensures (is-not _ _ _ c.if-x-eq-IAC-2.false refl))
+returns-in-Within c = step_of _ c.in-Within.is (state-of _ c.to-in-Within.ensures (is-it _ _ _ c.if-x-eq-IAC-2.true refl))
 
-pub returns-else-x-eq-SE : goal.returns-else-x-eq-SE
+pub returns-in-WithinIac : goal.returns-in-WithinIac
 unfolding telnet_octet
-returns-else-x-eq-SE c = step_of _ c.in-WithinIac.is (state-of _ c.to-in-WithinIac.ensures (is-not _ _ _ c.if-x-eq-SE.false refl))
+returns-in-WithinIac c = step_of _ c.in-WithinIac.is (state-of _ c.to-in-WithinIac.ensures (is-it _ _ _ c.if-x-eq-SE.true refl))
+
+pub returns-in-Within-2 : goal.returns-in-Within-2
+unfolding telnet_octet
+returns-in-Within-2 c = step_of _ c.in-Within-2.is (state-of _ c.to-in-Within-2.ensures (is-not _ _ _ c.if-x-eq-IAC-2.false refl))
+
+pub returns-in-WithinIac-2 : goal.returns-in-WithinIac-2
+unfolding telnet_octet
+returns-in-WithinIac-2 c = step_of _ c.in-WithinIac-2.is (state-of _ c.to-in-WithinIac-2.ensures (is-not _ _ _ c.if-x-eq-SE.false refl))

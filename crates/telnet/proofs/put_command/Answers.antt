@@ -1,23 +1,7 @@
--- `telnet::put_command` meets its contract, by the cases of what the octet does; where that is no octet, nothing is put.
-use Rattle.std.proofs.Common.{sym, ap}
-use Rattle.rules.specs.Telnet.{command_of}
+-- `telnet::put_command` meets its contract: where no command passes, nothing is put.
 use Rattle.output.proofs.Placing.{written, nothing_put}
+use Rattle.telnet.proofs.Layers.{no-command}
 use Rattle.telnet.proofs.put_command.Goals as goal
 
-pub returns-in-Data : goal.returns-in-Data
-returns-in-Data c = written _ _ (ap command_of (sym c.in-Data.is)) (nothing_put _ _)
-
-pub returns-in-Nothing : goal.returns-in-Nothing
-returns-in-Nothing c = written _ _ (ap command_of (sym c.in-Nothing.is)) (nothing_put _ _)
-
-pub returns-in-AnswersDont : goal.returns-in-AnswersDont
-returns-in-AnswersDont c = written _ _ (ap command_of (sym c.in-AnswersDont.is)) (nothing_put _ _)
-
-pub returns-in-AnswersWont : goal.returns-in-AnswersWont
-returns-in-AnswersWont c = written _ _ (ap command_of (sym c.in-AnswersWont.is)) (nothing_put _ _)
-
-pub returns-in-Passes : goal.returns-in-Passes
-returns-in-Passes c = written _ _ (ap command_of (sym c.in-Passes.is)) c.put.ensures
-
-pub returns-in-Removes : goal.returns-in-Removes
-returns-in-Removes c = written _ _ (ap command_of (sym c.in-Removes.is)) (nothing_put _ _)
+pub returns-in_default : goal.returns-in_default
+returns-in_default c = written _ _ (no-command c.args.does c.in_default.not-Passes) (nothing_put _ _)

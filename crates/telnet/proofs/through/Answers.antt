@@ -9,4 +9,4 @@ pub returns-then-not-in_lines : goal.returns-then-not-in_lines
 returns-then-not-in_lines c = raw _ _ _ (not-true _ (ap not c.if-not-in_lines.true))
 
 pub returns : goal.returns
-returns c = layered _ _ _ (not-false _ (ap not c.if-not-in_lines.false)) c.octet-step.ensures c.removed_after.ensures
+returns c = layered _ _ _ (not-false _ (ap not c.if-not-in_lines.false)) c.octet-telnet.ensures c.removed_after.ensures

@@ -1,4 +1,5 @@
 -- By the cases of the command.
+use Rattle.std.specs.Prelude.{Some}
 use mathlib.Core.Path.{◌≡◌, ap, sym, ◌∙◌}
 use Rattle.rules.specs.Octets.{choose}
 use Rattle.rules.specs.Commands.{command_owes, answer_switches, command_switches}
@@ -9,15 +10,14 @@ use Rattle.rules.specs.declared.Switches.{Switches}
 use Rattle.places.specs.declared.Place.{Place}
 use Rattle.places.specs.Places.{at}
 use Rattle.gives.specs.declared.Gives.{Gives}
-use Rattle.queue.specs.declared.Owes.{Owes}
 use Rattle.upstream.specs.Upstream.{client_effect_of, command_effect, judged_effect}
 use Rattle.upstream.proofs.judged_effect.Goals as goal
 
 -- an own answer tells the switches too
 answered : (sw : Switches) (a : OwnAnswer) {told : Switches} {k : Command} → told ≡ answer_switches sw a → k ≡ Command.Answered a
-    → client_effect_of Gives.Nothing (at Place.Holding 0) told (Owes.One (Kind.Own a)) ≡ judged_effect sw k
+    → client_effect_of Gives.Nothing (at Place.Holding 0) told (Some (Kind.Own a)) ≡ judged_effect sw k
 unfolding judged_effect command_effect command_owes command_switches choose
-answered sw a t e = (λ i. client_effect_of Gives.Nothing (at Place.Holding 0) (t i) (Owes.One (Kind.Own a))) ∙ ap (judged_effect sw) (sym e)
+answered sw a t e = (λ i. client_effect_of Gives.Nothing (at Place.Holding 0) (t i) (Some (Kind.Own a))) ∙ ap (judged_effect sw) (sym e)
 
 pub returns-in-Passes : goal.returns-in-Passes
 unfolding judged_effect command_effect command_owes command_switches choose

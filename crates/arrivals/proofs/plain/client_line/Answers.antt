@@ -1,6 +1,6 @@
 -- The octets up to an LF are held (`line-held`); if the line is plain, its LF ends it (`line-ended`).
 use mathlib.Core.Path.{◌≡◌, sym, subst, ◌∙◌}
-use mathlib.Core.Bool.{true, false, false≢true}
+use mathlib.Core.Bool.{true}
 use mathlib.Core.List.{List}
 use Prim.Native.Nat.{ℕ, ◌+◌, ◌-◌}
 use native.Mathlib.Omega.{arith}
@@ -20,7 +20,7 @@ held-here : (c : After-hold_run-j)
     → (let a = c.args in
     let j = c.hold_run-j.result in
     SaidPlain a.octets.now a.i a.held a.owed a.lent.now a.to_server.now a.at
-    (record { more = false; taken = j; held = a.held + (j - a.i); owed = a.owed; at = a.at })
+    (record { taken = j; held = a.held + (j - a.i); owed = a.owed; at = a.at })
     (put_mid lent_command most_held a.lent.now c.hold_run-j.new.line) a.to_server.now)
 held-here c =
     let a = c.args in
@@ -56,10 +56,10 @@ returns-then-is_plain c =
     let put = put-itself _ may.3 a.to_server.now a.at c.put_ended-next.ensures in
     let ended = line-ended a.octets.now (a.held + (c.hold_run-j.result - a.i)) a.owed (put_mid lent_command most_held a.lent.now c.hold_run-j.new.line) all
     a.to_server.now a.at may.0 may.1 held.held pre.counts.1 held.still pre.within.2 (room-itself _ may.3 may.2) text plain put.0
-    put.1 in record { ran = said-then held ended; more = λ _. omega arith }
+    put.1 in (said-then held ended, omega arith)
 
 pub returns-else-is_plain : goal.returns-else-is_plain
-returns-else-is_plain c = record { ran = held-here (goal.at.returns-else-is_plain c).After-hold_run-j; more = λ e. absurd (false≢true e) }
+returns-else-is_plain c = held-here (goal.at.returns-else-is_plain c).After-hold_run-j
 
 pub returns-else-may_end : goal.returns-else-may_end
-returns-else-may_end c = record { ran = held-here (goal.at.returns-else-may_end c).After-hold_run-j; more = λ e. absurd (false≢true e) }
+returns-else-may_end c = held-here (goal.at.returns-else-may_end c).After-hold_run-j

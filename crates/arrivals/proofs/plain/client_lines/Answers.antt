@@ -1,7 +1,6 @@
 use mathlib.Core.Path.{refl}
 use native.Mathlib.Omega.{arith}
-use borrow.Author.Tests.{not-false}
-use Rattle.arrivals.proofs.PlainLines.{said-none, said-then, said-so, said-inside}
+use Rattle.arrivals.proofs.PlainLines.{said-none, said-then, said-inside}
 use Rattle.arrivals.proofs.plain.client_lines.Goals as goal
 
 pub loop-i-init : goal.loop-i-init
@@ -15,48 +14,34 @@ loop-i-init c =
       refl,
     )
 
-pub client_line-said-requires : goal.client_line-said-requires
-client_line-said-requires c =
+pub client_line-requires : goal.client_line-requires
+client_line-requires c =
     let v = c.loop-i.invariant in record { counts = (v.0.held, c.if-owed-lt-OWED.true, v.0.still); within = (v.1, v.2, v.0.written) }
 
-pub returns-then-not-said : goal.returns-then-not-said
-returns-then-not-said c =
+pub returns-in-Break : goal.returns-in-Break
+returns-in-Break c =
     let v = c.loop-i.invariant in
-    said-then v.0 c.client_line-said.ensures.ran
+    said-then v.0 c.in-Break.ensures
 
 pub loop-i-smaller : goal.loop-i-smaller
 loop-i-smaller c =
-    let r = c.client_line-said in
-    let more = r.ensures.more (not-false _ c.if-not-said.false) in
+    let more = c.in-Continue.ensures.1 in
     let inside = c.loop-i-test.true in
     omega arith
 
 pub loop-i-preserved : goal.loop-i-preserved
 loop-i-preserved c =
     let v = c.loop-i.invariant in
-    let r = c.client_line-said in
+    let r = c.client_line in
     let lent = r.auto.lent in
     let out = r.auto.to_server in
     let all = v.2 in
     let same = v.3 in
-    let said = said-then v.0 r.ensures.ran in
-    (said-so said, said-inside said, omega arith, omega arith)
+    let said = said-then v.0 c.in-Continue.ensures.0 in
+    (said, said-inside said, omega arith, omega arith)
 
 pub returns-else-owed-lt-OWED : goal.returns-else-owed-lt-OWED
 returns-else-owed-lt-OWED c = c.loop-i.invariant.0
 
 pub returns-after-loop-i : goal.returns-after-loop-i
 returns-after-loop-i c = c.loop-i.invariant.0
-
-pub shape_of-lent-then-not-said : goal.shape_of-lent-then-not-said
-shape_of-lent-then-not-said c =
-    let all = c.loop-i.invariant.2 in
-    let kept = c.client_line-said.auto.lent in
-    let whole = c.requires.within.1 in
-    omega arith
-
-pub shape_of-to_server-then-not-said : goal.shape_of-to_server-then-not-said
-shape_of-to_server-then-not-said c =
-    let same = c.loop-i.invariant.3 in
-    let kept = c.client_line-said.auto.to_server in
-    omega arith

@@ -7,7 +7,7 @@ use Rattle.octets.proofs.Choices.{choose-true}
 use Rattle.arrivals.specs.PlainRuns.{is_plain_first, keeps_still}
 use Rattle.arrivals.proofs.Keeping.{either_true, keeps-not, keeps-behind}
 use Rattle.arrivals.proofs.plain.keeps_still.Goals as goal
-use Rattle.arrivals.proofs.plain.keeps_still.Goals.{then-not-inside+else-not-is_plain_first, else-not-inside}
+use Rattle.arrivals.proofs.plain.keeps_still.Goals.{else-not-inside-via-then-not-inside+else-not-is_plain_first, else-not-inside-via-else-not-inside}
 
 pub returns-then-removes-eq0 : goal.returns-then-removes-eq0
 unfolding keeps_still
@@ -24,8 +24,8 @@ returns c =
     let a = c.args in
     let first = is_plain_first a.kinds.now in
     let none : (a.inside || first) ≡ true =
-    elim c.if-not-inside.branch [
-      | then-not-inside+else-not-is_plain_first w ↦ either_true a.inside (sym w.is_plain_first.ensures ∙ w.if-not-is_plain_first.false)
-      | else-not-inside w ↦ ap (λ (u : Bool). u || first) w.if-not-inside.false
+    elim c.else-not-inside.branch [
+      | else-not-inside-via-then-not-inside+else-not-is_plain_first w ↦ either_true a.inside (sym w.is_plain_first.ensures ∙ w.if-not-is_plain_first.false)
+      | else-not-inside-via-else-not-inside w ↦ ap (λ (u : Bool). u || first) w.if-not-inside.false
     ] in
     c.is_still.ensures ∙ keeps-behind a.kinds.now a.inside a.removes a.owed c.if-removes-eq0.false none

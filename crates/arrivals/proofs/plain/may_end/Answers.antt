@@ -1,21 +1,11 @@
 -- `arrivals::plain::may_end` meets its contract: what `false` promises is nothing; octets held before have no 255 where
 -- none is found up to their end.
-use mathlib.Core.Bool.{false≢true}
 use native.Mathlib.Omega.{arith}
 use borrow.Author.Rules.{rules}
 use borrow.Author.Tests.{leb-true}
 use Rattle.rules.specs.Octets.{iac, is_not}
 use Rattle.octets.proofs.Runs.{every-reached}
 use Rattle.arrivals.proofs.plain.may_end.Goals as goal
-
-pub returns-then-octets-j : goal.returns-then-octets-j
-returns-then-octets-j c = λ e. absurd (false≢true e)
-
-pub returns-then-octets-j-ne-LF : goal.returns-then-octets-j-ne-LF
-returns-then-octets-j-ne-LF c = λ e. absurd (false≢true e)
-
-pub returns-then-room-line : goal.returns-then-room-line
-returns-then-room-line c = λ e. absurd (false≢true e)
 
 pub returns-then-before-eq0 : goal.returns-then-before-eq0
 returns-then-before-eq0 c e =

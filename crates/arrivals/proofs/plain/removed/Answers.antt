@@ -1,36 +1,34 @@
 -- `arrivals::plain::removed` meets its contract: by the reply's line.
-use mathlib.Core.Path.{sym, ap, ◌∙◌}
-use borrow.Author.Rules.{rules}
-use borrow.Author.Tests.{eq-eqb, ne_eqb}
+use mathlib.Core.Path.{◌≡◌, refl, sym, ap, ◌∙◌}
+use Prim.Native.Nat.{ℕ, zero, suc, min}
+use native.Mathlib.Omega.{arith}
+use borrow.Author.Tests.{ne_eqb}
+use Rattle.rules.specs.Octets.{choose}
 use Rattle.rules.specs.declared.ReplyLine.{ReplyLine}
-use Rattle.octets.proofs.Choices.{choose-true, choose-false}
 use Rattle.arrivals.specs.PlainRuns.{plain_removes}
 use Rattle.arrivals.proofs.plain.removed.Goals as goal
 
+-- one of those owed, if any is
+one-owed : (owed : ℕ) → min owed 1 ≡ plain_removes ReplyLine.Final owed
+unfolding plain_removes choose
+one-owed zero = refl
+one-owed (suc n) = rw (ne_eqb (suc n) 0 (λ e. omega (arith, e))) (omega arith)
+
 pub returns-in-Opens : goal.returns-in-Opens
 unfolding plain_removes
-returns-in-Opens c = search rules
+returns-in-Opens c = ap (λ (r : ReplyLine). plain_removes r c.args.owed) (sym c.in-Opens.is)
 
 pub returns-in-Belongs : goal.returns-in-Belongs
 unfolding plain_removes
-returns-in-Belongs c = search rules
+returns-in-Belongs c = ap (λ (r : ReplyLine). plain_removes r c.args.owed) (sym c.in-Belongs.is)
 
 pub returns-in-Preliminary : goal.returns-in-Preliminary
 unfolding plain_removes
-returns-in-Preliminary c = search rules
+returns-in-Preliminary c = ap (λ (r : ReplyLine). plain_removes r c.args.owed) (sym c.in-Preliminary.is)
 
-pub returns-then-owed-eq0 : goal.returns-then-owed-eq0
-unfolding plain_removes
-returns-then-owed-eq0 c =
-    let owed = c.args.owed in
-    sym (choose-true 0 1 (eq-eqb owed 0 c.if-owed-eq0.true)) ∙ ap (λ (r : ReplyLine). plain_removes r owed) (sym c.in-Final.is)
-
-pub returns-else-owed-eq0 : goal.returns-else-owed-eq0
-unfolding plain_removes
-returns-else-owed-eq0 c =
-    let owed = c.args.owed in
-    sym (choose-false 0 1 (ne_eqb owed 0 c.if-owed-eq0.false)) ∙ ap (λ (r : ReplyLine). plain_removes r owed) (sym c.in-Final.is)
+pub returns-in-Final : goal.returns-in-Final
+returns-in-Final c = c.min.ensures ∙ one-owed c.args.owed ∙ ap (λ (r : ReplyLine). plain_removes r c.args.owed) (sym c.in-Final.is)
 
 pub returns-in-StandsAlone : goal.returns-in-StandsAlone
 unfolding plain_removes
-returns-in-StandsAlone c = search rules
+returns-in-StandsAlone c = ap (λ (r : ReplyLine). plain_removes r c.args.owed) (sym c.in-StandsAlone.is)

@@ -1,6 +1,6 @@
 -- Octets are held (`reply-held`); behind them the LF of a plain line (`reply-ended`), or nothing.
 use mathlib.Core.Path.{◌≡◌, sym, ap, subst, ◌∙◌}
-use mathlib.Core.Bool.{true, false, false≢true}
+use mathlib.Core.Bool.{true}
 use mathlib.Core.List.{List}
 use Prim.Native.Nat.{ℕ, ◌+◌, ◌-◌, ◌≤◌}
 use native.Mathlib.Omega.{arith}
@@ -8,17 +8,15 @@ use lib.ListN.{length, take, drop}
 use borrow.Rule.Slice.PartMut.{put_mid}
 use Rattle.rules.specs.Replies.{reply_line}
 use Rattle.queue.proofs.Shifting.{shifted_in_lem}
-use Rattle.queue.proofs.Listed.{length-shifted}
 use Rattle.steps.specs.Takes.{kinds_lent}
 use Rattle.arrivals.specs.PlainRuns.{AnsweredPlain}
-use Rattle.steps.proofs.Lent.{put-size, kinds-size}
+use Rattle.steps.proofs.Lent.{kinds-size}
 use Rattle.arrivals.proofs.Runs.{no-iacs}
 use Rattle.arrivals.proofs.LineEnds.{room-itself, put-itself}
 use Rattle.arrivals.proofs.PlainReplies.{removes-within, answered-then, held-size, held-text, reply-held, reply-ended}
 use Rattle.rules.specs.Octets.{iac, is_not, every}
 use Rattle.rules.specs.Lines.{most_held}
-use Rattle.rules.specs.Answers.{most_owed}
-use Rattle.records.specs.Layout.{lent_kinds, lent_reply, lent_size}
+use Rattle.records.specs.Layout.{lent_reply, lent_size}
 use Rattle.arrivals.proofs.plain.server_line.Goals as goal
 use Rattle.arrivals.proofs.plain.server_line.Goals.{After-hold_run-j, After-removed-removes}
 
@@ -51,7 +49,6 @@ module _ (c : After-hold_run-j) where
   first : AnsweredPlain octets i held owed c.args.opening lent
       c.args.to_client.now c.args.at
       (record {
-        more = false;
         taken = j;
         held = held + (j - i);
         owed = owed;
@@ -86,15 +83,8 @@ pub may_end-requires : goal.may_end-requires
 may_end-requires c e =
     subst (λ (l : List ℕ). every (is_not iac) l ≡ true) (read (goal.at.may_end-requires c).After-hold_run-j e ∙ sym c.text-read.ensures) (no-iacs _ c.hold_run-j.ensures.run)
 
-pub slice_bounds-text-end-then-keeps_still-2 : goal.slice_bounds-text-end-then-keeps_still-2
-slice_bounds-text-end-then-keeps_still-2 c =
-    omega (arith, all (goal.at.slice_bounds-text-end-then-keeps_still-2 c).After-hold_run-j, (first (goal.at.slice_bounds-text-end-then-keeps_still-2 c).After-hold_run-j).held)
-
 pub text-line-requires : goal.text-line-requires
 text-line-requires c = read (goal.at.text-line-requires c).After-hold_run-j
-
-pub slice_bounds-shift-end : goal.slice_bounds-shift-end
-slice_bounds-shift-end c = omega (arith, all (goal.at.slice_bounds-shift-end c).After-hold_run-j)
 
 pub overflow_add-result : goal.overflow_add-result
 overflow_add-result c =
@@ -104,14 +94,6 @@ overflow_add-result c =
 
 pub overflow_sub-result : goal.overflow_sub-result
 overflow_sub-result c = few (goal.at.overflow_sub-result c).After-removed-removes
-
-pub shape_of-lent-then-keeps_still : goal.shape_of-lent-then-keeps_still
-shape_of-lent-then-keeps_still c =
-    let size = kinds-size (after (goal.at.shape_of-lent-then-keeps_still c).After-hold_run-j) (all (goal.at.shape_of-lent-then-keeps_still c).After-hold_run-j) in
-    let moved = c.shift.ensures ∙ shifted_in_lem (kinds_lent (after (goal.at.shape_of-lent-then-keeps_still c).After-hold_run-j)) _ _ (omega (arith, size, (first (goal.at.shape_of-lent-then-keeps_still c).After-hold_run-j).owed)) in
-    put-size lent_kinds most_owed (after (goal.at.shape_of-lent-then-keeps_still c).After-hold_run-j) c.shift.new.kinds (omega (arith, all (goal.at.shape_of-lent-then-keeps_still c).After-hold_run-j))
-    (ap length moved ∙ (length-shifted (kinds_lent (after (goal.at.shape_of-lent-then-keeps_still c).After-hold_run-j)) _ _ (omega (arith, size, (first (goal.at.shape_of-lent-then-keeps_still c).After-hold_run-j).owed)) ∙ size))
-    ∙ (all (goal.at.shape_of-lent-then-keeps_still c).After-hold_run-j ∙ sym c.requires.within.1)
 
 pub returns-then-keeps_still : goal.returns-then-keeps_still
 returns-then-keeps_still c =
@@ -124,18 +106,18 @@ returns-then-keeps_still c =
     let over = c.hold_run-j.ensures.within.0 in
     let seen = c.text-read.ensures in
     let line = c.text-line.ensures in
-    let put = put-itself _ (subst (λ (l : List ℕ). every (is_not iac) l ≡ true) (seen ∙ sym line) ends.3) a.to_client.now a.at c.put_ended-next.ensures in record {
-      ran = answered-then (octets (goal.at.returns-then-keeps_still c).After-hold_run-j) (i (goal.at.returns-then-keeps_still c).After-hold_run-j) (held (goal.at.returns-then-keeps_still c).After-hold_run-j) (owed (goal.at.returns-then-keeps_still c).After-hold_run-j) a.opening (lent (goal.at.returns-then-keeps_still c).After-hold_run-j) a.to_client.now a.at _ _ (after (goal.at.returns-then-keeps_still c).After-hold_run-j) a.to_client.now _ _ (first (goal.at.returns-then-keeps_still c).After-hold_run-j)
+    let put = put-itself _ (subst (λ (l : List ℕ). every (is_not iac) l ≡ true) (seen ∙ sym line) ends.3) a.to_client.now a.at c.put_ended-next.ensures in (
+      answered-then (octets (goal.at.returns-then-keeps_still c).After-hold_run-j) (i (goal.at.returns-then-keeps_still c).After-hold_run-j) (held (goal.at.returns-then-keeps_still c).After-hold_run-j) (owed (goal.at.returns-then-keeps_still c).After-hold_run-j) a.opening (lent (goal.at.returns-then-keeps_still c).After-hold_run-j) a.to_client.now a.at _ _ (after (goal.at.returns-then-keeps_still c).After-hold_run-j) a.to_client.now _ _ (first (goal.at.returns-then-keeps_still c).After-hold_run-j)
           (reply-ended (octets (goal.at.returns-then-keeps_still c).After-hold_run-j) (j (goal.at.returns-then-keeps_still c).After-hold_run-j) (held (goal.at.returns-then-keeps_still c).After-hold_run-j + (j (goal.at.returns-then-keeps_still c).After-hold_run-j - i (goal.at.returns-then-keeps_still c).After-hold_run-j)) (owed (goal.at.returns-then-keeps_still c).After-hold_run-j) a.opening (after (goal.at.returns-then-keeps_still c).After-hold_run-j) _ a.to_client.now _ a.at _ _ _ (all (goal.at.returns-then-keeps_still c).After-hold_run-j)
           (first (goal.at.returns-then-keeps_still c).After-hold_run-j).held (first (goal.at.returns-then-keeps_still c).After-hold_run-j).owed (first (goal.at.returns-then-keeps_still c).After-hold_run-j).still ends.0 ends.1 _ _ seen line
           (room-itself _ ends.3 ends.2)
           reply.result (reply.ensures ∙ ap (reply_line a.opening) c.content.ensures) c.removed-removes.ensures c.opening_after.ensures keeps
-          put.0 put.1 moved);
-      more = λ _. omega arith;
-    }
+          put.0 put.1 moved),
+      omega arith,
+    )
 
 pub returns-else-keeps_still : goal.returns-else-keeps_still
-returns-else-keeps_still c = record { ran = first (goal.at.returns-else-keeps_still c).After-hold_run-j; more = λ e. absurd (false≢true e) }
+returns-else-keeps_still c = first (goal.at.returns-else-keeps_still c).After-hold_run-j
 
 pub returns-else-may_end : goal.returns-else-may_end
-returns-else-may_end c = record { ran = first (goal.at.returns-else-may_end c).After-hold_run-j; more = λ e. absurd (false≢true e) }
+returns-else-may_end c = first (goal.at.returns-else-may_end c).After-hold_run-j

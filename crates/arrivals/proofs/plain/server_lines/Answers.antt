@@ -1,8 +1,6 @@
 use mathlib.Core.Path.{refl, ◌∙◌}
-use mathlib.Core.Bool.{false}
 use native.Mathlib.Omega.{arith}
-use borrow.Author.Tests.{not-false}
-use Rattle.arrivals.proofs.PlainReplies.{answered-none, answered-then, answered-more}
+use Rattle.arrivals.proofs.PlainReplies.{answered-none, answered-then}
 use Rattle.arrivals.proofs.plain.server_lines.Goals as goal
 
 pub loop-i-init : goal.loop-i-init
@@ -14,47 +12,35 @@ loop-i-init c =
       refl,
     )
 
-pub server_line-answered-requires : goal.server_line-answered-requires
-server_line-answered-requires c =
+pub server_line-requires : goal.server_line-requires
+server_line-requires c =
     let inv = c.loop-i.invariant in
     let more = c.loop-i-test.true in
     let all = c.requires.within.1 in
     let same = inv.1 in record { counts = (inv.0.held, inv.0.owed, inv.0.still); within = (omega arith, omega arith, inv.0.written) }
 
-pub shape_of-lent-then-not-answered : goal.shape_of-lent-then-not-answered
-shape_of-lent-then-not-answered c = c.server_line-answered.auto.lent ∙ c.loop-i.invariant.1
-
-pub shape_of-to_client-then-not-answered : goal.shape_of-to_client-then-not-answered
-shape_of-to_client-then-not-answered c = c.server_line-answered.auto.to_client ∙ c.loop-i.invariant.2
-
-pub returns-then-not-answered : goal.returns-then-not-answered
-returns-then-not-answered c =
+pub returns-in-Break : goal.returns-in-Break
+returns-in-Break c =
     let a = c.args in
     answered-then a.octets.now a.from a.start a.before a.code a.lent.now a.to_client.now a.first _ _ _ _ _ _
-    c.loop-i.invariant.0 c.server_line-answered.ensures.ran
+    c.loop-i.invariant.0 c.in-Break.ensures
 
 pub loop-i-smaller : goal.loop-i-smaller
 loop-i-smaller c =
-    let on = c.server_line-answered.ensures.more (not-false _ c.if-not-answered.false) in
+    let on = c.in-Continue.ensures.1 in
     let more = c.loop-i-test.true in
     omega arith
 
 pub loop-i-preserved : goal.loop-i-preserved
 loop-i-preserved c =
     let a = c.args in
-    let line = c.server_line-answered in
+    let line = c.server_line in
     let inv = c.loop-i.invariant in
-    let ran = answered-then a.octets.now a.from a.start a.before a.code a.lent.now a.to_client.now a.first _ _ _ _ _ _ inv.0 line.ensures.ran in (
-      answered-more a.octets.now a.from a.start a.before a.code a.lent.now a.to_client.now a.first false _ _ _ ran,
+    let ran = answered-then a.octets.now a.from a.start a.before a.code a.lent.now a.to_client.now a.first _ _ _ _ _ _ inv.0 c.in-Continue.ensures.0 in (
+      ran,
       line.auto.lent ∙ inv.1,
       line.auto.to_client ∙ inv.2,
     )
-
-pub shape_of-lent : goal.shape_of-lent
-shape_of-lent c = c.loop-i.invariant.1
-
-pub shape_of-to_client : goal.shape_of-to_client
-shape_of-to_client c = c.loop-i.invariant.2
 
 pub returns : goal.returns
 returns c = c.loop-i.invariant.0

@@ -40,11 +40,6 @@ returns-then-not-is_settled c = λ f.
     (core_in a.control a.lines.now a.kinds a.to_server.now a.to_client.now a.written) a.i
     c.requires.within.0 c.requires.bounds.server c.requires.bounds.client
 
-pub slice_bounds-direction_run-end : goal.slice_bounds-direction_run-end
-slice_bounds-direction_run-end c =
-    let size = c.requires.within.1 in
-    omega (arith, size)
-
 pub slice_bounds-direction_run-end-then-from_client : goal.slice_bounds-direction_run-end-then-from_client
 slice_bounds-direction_run-end-then-from_client c =
     sym (command-size c.args.lines.now c.requires.within.1)
@@ -64,16 +59,6 @@ returns-then-from_client c = λ f.
     (clear_of c.layer_of-layer.ensures c.is_clear.ensures (ap not c.if-not-is_clear.false))
     (sym c.queue_full.ensures ∙ c.if-queue_full.false)
     (ap side_if c.if-from_client.true) r.auto.line r.ensures c.with_client.ensures
-
-pub slice_bounds-direction_run-count : goal.slice_bounds-direction_run-count
-slice_bounds-direction_run-count c =
-    let size = c.requires.within.1 in
-    omega (arith, size)
-
-pub slice_bounds-direction_run-start : goal.slice_bounds-direction_run-start
-slice_bounds-direction_run-start c =
-    let size = c.requires.within.1 in
-    omega (arith, size)
 
 pub direction_run-run-requires-2 : goal.direction_run-run-requires-2
 direction_run-run-requires-2 c =

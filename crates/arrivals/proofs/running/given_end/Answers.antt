@@ -17,8 +17,7 @@ returns-then-is_flowing c =
 pub returns-then-is_passing : goal.returns-then-is_passing
 returns-then-is_passing c =
     let pre = c.requires in
-    let all = c.least.ensures.0 in
-    let most = c.least.ensures.1 in record {
+    let all = c.min.ensures in record {
       within = (omega arith, omega arith, omega arith);
       run = gives_passing
           (direction-at _ (place-passing _ (sym c.is_passing.ensures ∙ c.if-is_passing.true))

@@ -35,9 +35,6 @@ returns-then-not-plan c = λ _ command reply.
 pub returns-then-server-ne0 : goal.returns-then-server-ne0
 returns-then-server-ne0 c = λ e. absurd (false≢true e)
 
-pub returns-then-not-is_clear : goal.returns-then-not-is_clear
-returns-then-not-is_clear c = λ e. absurd (false≢true e)
-
 pub returns-then-is_passing : goal.returns-then-is_passing
 returns-then-is_passing c = λ _.
     quiet (goal.at.returns-then-is_passing c).After-is_passing (through-passing c.args.control.server c.args.control.down.telnet c.if-server-ne0.false (clear-is _ (sym c.is_clear.ensures ∙ not-false _ (ap not c.if-not-is_clear.false))) (sym c.is_passing.ensures ∙ c.if-is_passing.true))

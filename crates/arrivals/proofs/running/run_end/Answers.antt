@@ -9,9 +9,9 @@ use Rattle.arrivals.proofs.running.run_end.Goals as goal
 pub returns-then-is_ordinary : goal.returns-then-is_ordinary
 returns-then-is_ordinary c =
     let a = c.args in
-    let n = c.least in
+    let n = c.min in
     let one = c.if-e-i-eq1.true in
-    let here = ordinary-one a.octets.now a.i (a.i + n.result - a.i) one (omega (arith, n.ensures.0, one)) (sym c.is_ordinary.ensures ∙ c.if-is_ordinary.true) in record { within = (omega arith, omega (arith, c.requires, n.ensures.0), omega (arith, n.ensures.1)); run = here }
+    let here = ordinary-one a.octets.now a.i (a.i + n.result - a.i) one (omega (arith, n.ensures, one)) (sym c.is_ordinary.ensures ∙ c.if-is_ordinary.true) in record { within = (omega arith, omega (arith, c.requires, n.ensures), omega (arith, n.ensures)); run = here }
 
 pub returns-then-e-i-eq1 : goal.returns-then-e-i-eq1
 returns-then-e-i-eq1 c =
@@ -23,8 +23,8 @@ overflow_add-result c =
     let a = c.args in
     let size = c.well_formed.0 in
     let pre = c.requires in
-    let n = c.least in
-    let all = n.ensures.0 in
+    let n = c.min in
+    let all = n.ensures in
     let found = c.ordinary_end-n in
     let end =
     (ordinary-part a.octets.now a.i (a.i + n.result) (a.i + found.result) found.result (omega arith)
@@ -35,9 +35,8 @@ pub returns : goal.returns
 returns c =
     let a = c.args in
     let pre = c.requires in
-    let n = c.least in
-    let all = n.ensures.0 in
-    let most = n.ensures.1 in
+    let n = c.min in
+    let all = n.ensures in
     let found = c.ordinary_end-n in
     let part =
     ordinary-part a.octets.now a.i (a.i + n.result) (a.i + found.result) found.result (omega arith)

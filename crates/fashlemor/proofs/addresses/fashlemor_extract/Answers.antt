@@ -5,4 +5,4 @@ use Rattle.fashlemor.proofs.addresses.fashlemor_extract.Goals as goal
 
 pub returns : goal.returns
 returns c =
-    let made = c.extract_into-answer.ensures in record { number = c.number_of.ensures ∙ ap prefix_number made.answer; address = made.address }
+    let made = c.extract_into-answer.ensures in record { number = c.from.ensures ∙ ap prefix_number made.answer; address = made.address }

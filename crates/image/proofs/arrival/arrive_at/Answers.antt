@@ -1,13 +1,12 @@
 -- `image::arrival::arrive_at` meets its contract: a refusal, or what `take` does to the arrays where they lie, and the rest written back.
 use Rattle.std.proofs.Common.{◌≡◌, ◌≤◌, eqb, length, drop, sym, refl, ◌∙◌, subst, arith, length-drop, length-take-le}
-use mathlib.Core.Option.{none}
+use Rattle.std.specs.Prelude.{None}
 use borrow.Rule.Slice.PartMut.{same_len_mid}
 use Rattle.records.specs.Layout.{supported_at, strict_at, client_at, lent_size, image_size}
 use Rattle.records.specs.declared.Session.{Session}
 use Rattle.session.specs.Calls.{arrived}
 use Rattle.records.proofs.Sides.{side-tested}
 use Rattle.records.specs.Sound.{refusal_of, side_if}
-use Rattle.records.proofs.Refusals.{by-nothing}
 use Rattle.steps.specs.Takes.{took_in}
 use Rattle.image.specs.Image.{is_set, part, session_of}
 use Rattle.image.specs.Lent.{arrived_on}
@@ -17,16 +16,16 @@ use Rattle.image.proofs.arrival.arrive_at.Goals.{In_default}
 
 module _ (c : In_default) where
   -- nothing refuses the arrival
-  free : refusal_of (session_of c.args.image.now) c.args.direction ≡ none
-  free = by-nothing _ (sym c.refusal_at.ensures ∙ c.in_default.is)
+  free : refusal_of (session_of c.args.image.now) c.args.direction ≡ None
+  free = sym c.refusal_at.ensures ∙ c.in_default.is
 
   -- so there is room for an image
   size : image_size ≤ length c.args.image.now
   size = free-size c.args.image.now c.args.direction free
 
-pub returns-in-By : goal.returns-in-By
-returns-in-By c =
-    let a = c.args in let both = arrival-refused a.image.now a.to_server.now a.to_client.now a.direction c.refusal_at.ensures c.in-By.is
+pub returns-in-Some : goal.returns-in-Some
+returns-in-Some c =
+    let a = c.args in let both = arrival-refused a.image.now a.to_server.now a.to_client.now a.direction c.refusal_at.ensures c.in-Some.is
     c.nothing_written.ensures a.octets.now in record { told = both.0; buffers = both.1 }
 
 pub bounds-image-1 : goal.bounds-image-1
@@ -85,7 +84,7 @@ returns c =
     let side = side_if (eqb a.direction 0) in
     let same = side-tested a.direction in
     let fields = free-fields I a.direction (free (goal.at.returns c).In_default) in
-    let freed = subst (λ (s : Session). refusal_of s a.direction ≡ none) (sym fields) (free (goal.at.returns c).In_default) in
+    let freed = subst (λ (s : Session). refusal_of s a.direction ≡ None) (sym fields) (free (goal.at.returns c).In_default) in
     let took = took_in (is_set I supported_at) (is_set I strict_at) side control.result (lent I long) a.octets.now (length a.to_server.now) (length a.to_client.now) in
     let all = lent-all I a.octets.now a.to_server.now a.to_client.now a.direction side same long freed (is_set I supported_at) (is_set I strict_at) control.result refl refl control.ensures in let both = subst
     (λ (s : Session). Left (arrived s a.direction a.octets.now (length a.to_server.now) (length a.to_client.now))

@@ -2,9 +2,9 @@
 use mathlib.Core.Path.{ap}
 use mathlib.Core.Bool.{not}
 use Rattle.std.proofs.Common.{◌≡◌, true, sym, refl, ◌∙◌}
-use mathlib.Core.Option.{none}
-use Rattle.records.specs.Sound.{refusal_of, refusal_by, Counted}
-use Rattle.records.proofs.Refusals.{unknown, by-nothing, otherwise}
+use Rattle.std.specs.Prelude.{None}
+use Rattle.records.specs.Sound.{refusal_of, Counted}
+use Rattle.records.proofs.Refusals.{unknown, otherwise}
 use Rattle.image.specs.Image.{control_in, is_image, session_of}
 use Rattle.image.specs.Lent.{ended_on}
 use Rattle.image.proofs.Reading.{image-size, refused-no-image, refused-image}
@@ -15,16 +15,15 @@ use Rattle.image.proofs.ending.end_at.Goals.{After-refusal_in, In_default}
 
 -- what the record of the image says
 module _ (c : After-refusal_in) where
-  said : c.refusal_in.result ≡ refusal_by (refusal_of (session_of c.args.image.now) c.args.direction)
+  said : c.refusal_in.result ≡ refusal_of (session_of c.args.image.now) c.args.direction
   said =
       refused-image c.args.image.now c.args.direction c.is_image.ensures (ap not c.if-not-is_image.false) c.refusal_in.ensures
 
 -- nothing refuses the end
-free : (c : In_default) → refusal_of (session_of c.args.image.now) c.args.direction ≡ none
+free : (c : In_default) → refusal_of (session_of c.args.image.now) c.args.direction ≡ None
 free c =
-    by-nothing _
-    (sym (refused-image c.args.image.now c.args.direction c.is_image.ensures (ap not c.if-not-is_image.false) c.refusal_in.ensures)
-    ∙ otherwise c.refusal_in.result c.in_default.not-By)
+    sym (refused-image c.args.image.now c.args.direction c.is_image.ensures (ap not c.if-not-is_image.false) c.refusal_in.ensures)
+    ∙ otherwise c.refusal_in.result c.in_default.not-Some
 
 -- so it is one of an image whose counts the arrays can hold
 ready : (c : In_default) → (is_image c.args.image.now ≡ true) × Counted (control_in c.args.image.now)
@@ -48,10 +47,10 @@ pub refusal_in-requires : goal.refusal_in-requires
 refusal_in-requires c =
     image-size c.args.image.now c.is_image.ensures (ap not c.if-not-is_image.false)
 
-pub returns-in-By : goal.returns-in-By
-returns-in-By c =
-    let a = c.args in let both = end_refused a.image.now a.to_server.now a.to_client.now a.direction (said (goal.at.returns-in-By c).After-refusal_in) c.in-By.is
-    c.nothing_written-in-By.ensures in record { told = both.0; buffers = both.1 }
+pub returns-in-Some : goal.returns-in-Some
+returns-in-Some c =
+    let a = c.args in let both = end_refused a.image.now a.to_server.now a.to_client.now a.direction (said (goal.at.returns-in-Some c).After-refusal_in) c.in-Some.is
+    c.nothing_written-in-Some.ensures in record { told = both.0; buffers = both.1 }
 
 pub returns-then-direction-eq0 : goal.returns-then-direction-eq0
 unfolding ended_on

@@ -3,11 +3,9 @@ use mathlib.Core.Path.{◌≡◌, sym, ap, ◌∙◌}
 use mathlib.Core.List.{◌++◌}
 use native.Mathlib.Omega.{arith}
 use lib.ListN.{length}
-use Rattle.rules.specs.Answers.{client}
 use Rattle.rules.specs.Lines.{most_held}
-use Rattle.steps.specs.Steps.{line_step}
-use Rattle.steps.specs.Takes.{command_in, reply_in, state_from}
-use Rattle.steps.proofs.Halves.{rest_from, rest_from_lem, command-size, reply-size, held-starts, held-command, held-reply, held-rest}
+use Rattle.steps.specs.Takes.{command_in, reply_in}
+use Rattle.steps.proofs.Halves.{rest_from, rest_from_lem, command-size, reply-size, held-command, held-reply, held-rest}
 use Rattle.steps.proofs.Octets.{unfit-done, client-planned, client-size, client-no-room, client-no-room-2, client-after}
 use Rattle.steps.proofs.octet.client_octet.Goals as goal
 
@@ -26,7 +24,7 @@ returns-then-to_server-written c =
     let a = c.args in
     let t = c.client_turn-t in
     let n = c.given_length in
-    unfit-done (line_step a.fixed client (state_from a.control (command_in a.lines.now) (reply_in a.lines.now) a.kinds) a.x) a.control (command_in a.lines.now) (reply_in a.lines.now) a.kinds a.to_server.now a.to_client.now a.written c.unfit.result c.unfit.ensures
+    unfit-done _ _
     (client-no-room a.fixed a.control (command_in a.lines.now) (reply_in a.lines.now) a.kinds a.x t.result t.ensures a.to_server.now a.to_client.now a.written c.requires.bounds n.result n.ensures c.if-to_server-written.true)
     c.requires.bounds
 
@@ -36,12 +34,12 @@ returns-then-to_client-written c =
     let t = c.client_turn-t in
     let m = c.settled_length in
     let size = reply-size a.lines.now c.requires.lengths in
-    unfit-done (line_step a.fixed client (state_from a.control (command_in a.lines.now) (reply_in a.lines.now) a.kinds) a.x) a.control (command_in a.lines.now) (reply_in a.lines.now) a.kinds a.to_server.now a.to_client.now a.written c.unfit-then-to_client-written.result c.unfit-then-to_client-written.ensures
+    unfit-done _ _
     (client-no-room-2 a.fixed a.control (command_in a.lines.now) (reply_in a.lines.now) a.kinds a.x t.result t.ensures a.to_server.now a.to_client.now a.written c.requires.bounds m.result (client-size a.fixed a.control (command_in a.lines.now) (reply_in a.lines.now) a.kinds a.x t.result t.ensures (rest_from_lem most_held a.lines.now) c.tail_length-tail.ensures.result m.ensures) c.if-to_client-written.true)
     c.requires.bounds
 
-pub slice_bounds-line-end-2 : goal.slice_bounds-line-end-2
-slice_bounds-line-end-2 c =
+pub slice_bounds-put_given-end-2 : goal.slice_bounds-put_given-end-2
+slice_bounds-put_given-end-2 c =
     sym (command-size c.args.lines.now c.requires.lengths)
 
 pub put_given-at-requires : goal.put_given-at-requires
@@ -50,26 +48,9 @@ put_given-at-requires c =
     let held = c.requires.bounds.command in
     omega arith
 
-pub slice_bounds-hold-end : goal.slice_bounds-hold-end
-slice_bounds-hold-end c =
-    let size = c.requires.lengths in
-    omega arith
-
 pub slice_bounds-hold-end-2 : goal.slice_bounds-hold-end-2
 slice_bounds-hold-end-2 c =
     sym (command-size c.args.lines.now c.requires.lengths)
-
-pub slice_bounds-settle-count : goal.slice_bounds-settle-count
-slice_bounds-settle-count c =
-    let a = c.args in
-    let held = c.hold in
-    held-starts a.lines.now c.requires.lengths a.control.client.held a.x c.client_turn-t.result.gives held.new.line held.ensures
-
-pub slice_bounds-settle-start : goal.slice_bounds-settle-start
-slice_bounds-settle-start c =
-    let a = c.args in
-    let held = c.hold in
-    held-starts a.lines.now c.requires.lengths a.control.client.held a.x c.client_turn-t.result.gives held.new.line held.ensures
 
 pub settle-s-requires : goal.settle-s-requires
 settle-s-requires c =

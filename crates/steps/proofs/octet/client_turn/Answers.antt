@@ -3,9 +3,6 @@ use Rattle.steps.proofs.Settles.{planned-by}
 use Rattle.steps.proofs.Turns.{client-turned}
 use Rattle.steps.proofs.octet.client_turn.Goals as goal
 
-pub owed_then-requires : goal.owed_then-requires
-owed_then-requires c = c.requires.counts.owed
-
 pub returns : goal.returns
 returns c =
     let a = c.args in

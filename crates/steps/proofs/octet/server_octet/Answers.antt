@@ -3,9 +3,6 @@ use mathlib.Core.Path.{ap, ◌∙◌}
 use mathlib.Core.List.{[]}
 use native.Mathlib.Omega.{arith}
 use lib.ListN.{length}
-use Rattle.rules.specs.Answers.{server}
-use Rattle.steps.specs.Steps.{line_step}
-use Rattle.steps.specs.Takes.{state_from}
 use Rattle.steps.proofs.Octets.{length-stored, unfit-done, server-planned, server-size, server-held, server-room, server-no-room, server-after, bounded-by}
 use Rattle.steps.proofs.octet.server_octet.Goals as goal
 
@@ -17,7 +14,7 @@ returns-then-room-n c command to_server server-end =
     let n = c.given_length-n in
     let given = n.ensures in
     let none = c.if-room-n.true in
-    unfit-done (line_step a.fixed server (state_from a.control command a.reply.now a.kinds) a.x) a.control command a.reply.now a.kinds to_server a.to_client.now a.written c.unfit.result c.unfit.ensures
+    unfit-done _ _
     (server-no-room a.fixed a.control command a.reply.now a.kinds a.x t.result t.ensures to_server a.to_client.now a.written bounded (omega arith))
     bounded
 
@@ -39,7 +36,7 @@ returns-then-room-n-2 c command to_server server-end =
     let measured = server-size a.fixed a.control command a.reply.now a.kinds a.x t.result t.ensures m.result c.tail_length-tail.ensures.result m.ensures in
     let first = c.if-room-n.false in
     let none = c.if-room-n-2.true in
-    unfit-done (line_step a.fixed server (state_from a.control command a.reply.now a.kinds) a.x) a.control command a.reply.now a.kinds to_server a.to_client.now a.written c.unfit-then-room-n-2.result c.unfit-then-room-n-2.ensures
+    unfit-done _ _
     (server-no-room a.fixed a.control command a.reply.now a.kinds a.x t.result t.ensures to_server a.to_client.now a.written bounded (omega arith))
     bounded
 

@@ -7,8 +7,6 @@ use borrow.Author.Rules.{rules}
 use Rattle.rules.specs.Answers.{most_answers}
 use Rattle.rules.specs.Lines.{most_held, passed}
 use Rattle.octets.proofs.Passed.{passed-most}
-use Rattle.steps.specs.Steps.{telnet_step}
-use Rattle.steps.specs.Takes.{state_from}
 use Rattle.steps.proofs.Settles.{planned-by}
 use Rattle.steps.proofs.Octets.{unfit-done}
 use Rattle.steps.proofs.Telnets.{settled-few, telnet-size, telnet-no-room, telnet-no-room-2, telnet-room, telnet-after}
@@ -17,7 +15,7 @@ use Rattle.steps.proofs.octet.telnet_octet.Goals as goal
 pub returns-then-to_server-written : goal.returns-then-to_server-written
 returns-then-to_server-written c command =
     let a = c.args in
-    unfit-done (telnet_step a.from_client (state_from a.control command a.reply.now a.kinds) a.does) a.control command a.reply.now a.kinds a.to_server.now a.to_client.now a.written c.unfit.result c.unfit.ensures
+    unfit-done _ _
     (telnet-no-room a.from_client a.does a.control command a.reply.now a.kinds a.to_server.now a.to_client.now a.written c.requires.bounds c.telnet_length.ensures.result c.if-to_server-written.true)
     c.requires.bounds
 
@@ -47,7 +45,7 @@ returns-then-to_client-written c command =
     let a = c.args in
     let plan = planned-by a.control a.kinds 0 c.blocked.ensures c.planned-plan.ensures.result in
     let size = telnet-size a.from_client a.does a.control command a.reply.now a.kinds (plan _ a.reply.now) c.tail_length-tail.ensures.result c.settled_length.ensures in
-    unfit-done (telnet_step a.from_client (state_from a.control command a.reply.now a.kinds) a.does) a.control command a.reply.now a.kinds a.to_server.now a.to_client.now a.written c.unfit-then-to_client-written.result c.unfit-then-to_client-written.ensures
+    unfit-done _ _
     (telnet-no-room-2 a.from_client a.does a.control command a.reply.now a.kinds a.to_server.now a.to_client.now a.written c.requires.bounds c.telnet_length-back.ensures.result size c.if-to_client-written.true)
     c.requires.bounds
 

@@ -2,15 +2,10 @@
 use mathlib.Core.Path.{sym}
 use mathlib.Core.List.{[]}
 use lib.ListN.{take}
-use lib.Seq.{length-take-le}
 use Rattle.rules.specs.Lines.{passed}
 use Rattle.output.proofs.Placing.{written, nothing_put}
 use Rattle.octets.proofs.Choices.{choose-true, choose-false}
 use Rattle.steps.proofs.settling.put_held.Goals as goal
-
-pub slice_bounds-put_passed-end : goal.slice_bounds-put_passed-end
-slice_bounds-put_passed-end c =
-    sym (length-take-le c.args.held c.args.reply.now c.requires)
 
 pub returns-then-auth : goal.returns-then-auth
 returns-then-auth c =

@@ -23,9 +23,6 @@ within c =
     let long : length a.kinds ≡ most_owed = search rules in
     (omega arith, omega arith)
 
-pub put_held-then-requires : goal.put_held-then-requires
-put_held-then-requires c = c.requires.counts.2
-
 pub settled_control-settled-requires : goal.settled_control-settled-requires
 settled_control-settled-requires c =
     (within (goal.at.settled_control-settled-requires c).Start).0

@@ -1,5 +1,4 @@
 -- `steps::settling::settled_length` meets its contract: by whether AUTH is first.
-use mathlib.Core.Path.{sym}
 use Prim.Native.Nat.{◌+◌, ◌≤◌}
 use native.Mathlib.Omega.{arith}
 use lib.ListN.{length, take}
@@ -9,29 +8,25 @@ use Rattle.rules.specs.Lines.{passed, most_held}
 use Rattle.octets.proofs.Passed.{passed-most}
 use Rattle.octets.proofs.Choices.{choose-true, choose-false}
 use Rattle.steps.proofs.settling.settled_length.Goals as goal
-use Rattle.steps.proofs.settling.settled_length.Goals.{After-struct_known-1}
+use Rattle.steps.proofs.settling.settled_length.Goals.{After-passed_length}
 
 -- what the held octets give is less than two lines
-few : (c : After-struct_known-1) → c.passed_length.result ≤ 2 + (most_held + most_held)
+few : (c : After-passed_length) → c.passed_length.result ≤ 2 + (most_held + most_held)
 few c =
     let line = take c.args.held c.args.reply.now in
     let size = length-take-le c.args.held c.args.reply.now c.requires.2 in
     let most = c.requires.1 in
     omega (arith, c.passed_length.ensures, passed-most line)
 
-pub slice_bounds-passed_length-end : goal.slice_bounds-passed_length-end
-slice_bounds-passed_length-end c =
-    sym (length-take-le c.args.held c.args.reply.now c.requires.2)
-
 pub overflow_add-result : goal.overflow_add-result
 overflow_add-result c =
-    let low = few (goal.at.overflow_add-result c).After-struct_known-1 in
+    let low = few (goal.at.overflow_add-result c).After-passed_length in
     let answers = c.requires.0 in
     search rules
 
 pub overflow_add-result-then-plan : goal.overflow_add-result-then-plan
 overflow_add-result-then-plan c =
-    let low = few (goal.at.overflow_add-result-then-plan c).After-struct_known-1 in
+    let low = few (goal.at.overflow_add-result-then-plan c).After-passed_length in
     let answers = c.requires.0 in
     let tail = c.requires.3 in
     search rules

@@ -1,5 +1,0 @@
--- `output::ipv4_from` meets its contract: it puts the octets into zeros.
-use Rattle.output.proofs.ipv4_from.Goals as goal
-
-pub returns : goal.returns
-returns c = c.put.ensures.1
