@@ -25,16 +25,16 @@ use Rattle.arrivals.specs.Runs.{line_of, Quiet, DirectionRan, Ran}
 use Rattle.arrivals.proofs.Runs.{Open}
 use Rattle.arrivals.proofs.Parts.{buffer_of, position_of, core_ran, ran-moved}
 
-module _ (lent lines : List ℕ) (all : length lent ≡ lent_size) (kept : length lines ≡ length (mid_of lent_command (length lent - lent_command) lent)) where
+module _ (lent lines : List ℕ) (all : length lent ≡ lent_size) (kept : length lines ≡ length (mid_of lent_command lines_size lent)) where
   pub run-over : (f : Fixed) (d : Side) (l : List ℕ) (c c' : Control) (kinds sb cb sb' cb' : List ℕ) (w w' : Written) (i j : ℕ)
       → kinds ≡ kinds_lent lent
-      → Ran f d l (core_in c (mid_of lent_command (length lent - lent_command) lent) kinds sb cb w) i (core_in c' lines kinds sb' cb' w') j
+      → Ran f d l (core_in c (mid_of lent_command lines_size lent) kinds sb cb w) i (core_in c' lines kinds sb' cb' w') j
       → Ran f d l (core_lent c lent sb cb w) i (core_lent c' (then lent lines all kept) sb' cb' w') j
   run-over f d l c c' kinds sb cb sb' cb' w w' i j e ran =
       subst (λ (s : State). Ran f d l (core_lent c lent sb cb w) i (core_from s sb' cb' w') j) (sym (then-state lent lines all kept c'))
       (subst (λ (m : List ℕ). Ran f d l (core_in c m (kinds_lent lent) sb cb w) i (core_in c' lines (kinds_lent lent) sb' cb' w') j)
       (lines-lent lent all)
-      (subst (λ (k : List ℕ). Ran f d l (core_in c (mid_of lent_command (length lent - lent_command) lent) k sb cb w) i (core_in c' lines k sb' cb' w') j) e ran))
+      (subst (λ (k : List ℕ). Ran f d l (core_in c (mid_of lent_command lines_size lent) k sb cb w) i (core_in c' lines k sb' cb' w') j) e ran))
 
 -- a run of one direction, whose line is lent further than the other's
 module _ (f : Fixed) (d : Side) (l : List ℕ) (c : Control) (lines kinds sb cb : List ℕ) (w : Written) (i : ℕ) (size : length lines ≡ lines_size)

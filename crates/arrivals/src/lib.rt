@@ -2,7 +2,6 @@
 #![tactic(auto)]
 
 ghost use Rattle.std.specs.Prelude.{◌≡◌, ◌≤◌, length};
-ghost use Rattle.records.specs.Layout.{lent_size};
 ghost use Rattle.records.specs.Sound.{Counted, side_if};
 ghost use Rattle.rules.specs.declared.Fixed.{Fixed};
 ghost use Rattle.steps.specs.Takes.{takes, took_in, fixed_lent, addresses_lent, state_lent, core_lent, Given};
@@ -21,7 +20,7 @@ use steps::{Written, next_octet};
 mod plain;
 mod running;
 
-// What stopped an arrival and how many octets it took; and the control and the counts then.
+// What stopped an arrival and how many octets it took; and the control and the counts then, all of it in every case.
 #[derive(Clone, Copy)]
 pub struct Taken {
     pub answer: Answer,
@@ -52,9 +51,12 @@ pub fn take(
     ensures fixed { addresses_lent lent.new ≡ addresses_lent lent.old }
     ensures counts { Counted start → Counted result.control }
 {
-    if !holdable(start) || lent.len() != LENT_SIZE {
+    if !holdable(start) {
         return nothing_taken(start);
     }
+    let Some(lent) = lent.as_mut_array() else {
+        return nothing_taken(start);
+    };
     take_each(
         supported,
         strict,
@@ -94,12 +96,11 @@ fn take_each(
     from_client: bool,
     start: Control,
     octets: &[u8],
-    lent: &mut [u8],
+    lent: &mut [u8; LENT_SIZE],
     to_server: &mut [u8],
     to_client: &mut [u8],
 ) -> Taken
     requires counts { Counted start }
-    requires lengths { length lent.old ≡ lent_size }
     ensures given { let server = to_server.old in
         let client = to_client.old in
         let fixed = fixed_lent supported strict lent.old in
@@ -212,13 +213,13 @@ fn next_run(
     control: Control,
     octets: &[u8],
     i: usize,
-    lent: &mut [u8],
+    lent: &mut [u8; LENT_SIZE],
     to_server: &mut [u8],
     to_client: &mut [u8],
     written: Written,
 ) -> RunPart
     requires bounds { Bounded control written to_server.old to_client.old }
-    requires within { (i ≤ length octets.now) × (length lent.old ≡ lent_size) }
+    requires within { i ≤ length octets.now }
     ensures ran { let k = core_lent control lent.old to_server.old to_client.old written in
         let m = core_lent result.control lent.new to_server.new to_client.new
         result.written in

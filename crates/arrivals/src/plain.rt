@@ -9,7 +9,6 @@ ghost use Rattle.rules.specs.Lines.{most_held};
 ghost use Rattle.rules.specs.Telnet.{is_clear};
 ghost use Rattle.output.specs.Buffer.{Put};
 ghost use Rattle.places.specs.Places.{is_holding};
-ghost use Rattle.records.specs.Layout.{lent_size};
 ghost use Rattle.rules.specs.declared.Fixed.{Fixed};
 ghost use Rattle.records.specs.Sound.{side_if, Counted};
 ghost use Rattle.steps.specs.Takes.{addresses_lent, core_lent, kinds_lent};
@@ -29,6 +28,9 @@ use search::find_iac;
 use std::ops::ControlFlow;
 use steps::Written;
 use telnet::is_clear;
+
+// The client's lines and the server's are taken by functions of one shape that differ in every line: what a line is,
+// what it leaves in the queue and where it goes.
 
 // How far one plain line of the client, or several, reach; and how many octets are held, replies owed and octets
 // written then.
@@ -97,12 +99,12 @@ fn client_line(
     owed: usize,
     octets: &[u8],
     i: usize,
-    lent: &mut [u8],
+    lent: &mut [u8; LENT_SIZE],
     to_server: &mut [u8],
     at: usize,
 ) -> ControlFlow<Said, Said>
     requires counts { (held ≤ most_held) × (owed < most_owed) × (is_still (kinds_lent lent.old) 0 owed ≡ true) }
-    requires within { (i ≤ length octets.now) × (length lent.old ≡ lent_size) × (at ≤ length to_server.old) }
+    requires within { (i ≤ length octets.now) × (at ≤ length to_server.old) }
     ensures { let line = octets.now in
         let before = lent.old in
         let out = to_server.old in
@@ -142,13 +144,12 @@ fn client_lines(
     before: usize,
     octets: &[u8],
     from: usize,
-    lent: &mut [u8],
+    lent: &mut [u8; LENT_SIZE],
     to_server: &mut [u8],
     first: usize,
 ) -> Said
     requires counts { (start ≤ most_held) × (before ≤ most_owed) × (is_still (kinds_lent lent.old) 0 before ≡ true) }
-    requires within { (from ≤ length octets.now) × (length lent.old ≡ lent_size)
-        × (first ≤ length to_server.old) }
+    requires within { (from ≤ length octets.now) × (first ≤ length to_server.old) }
     ensures { SaidPlain octets.now from start before lent.old to_server.old first result
         lent.new to_server.new }
 {
@@ -215,12 +216,12 @@ fn server_line(
     opening: u32,
     octets: &[u8],
     i: usize,
-    lent: &mut [u8],
+    lent: &mut [u8; LENT_SIZE],
     to_client: &mut [u8],
     at: usize,
 ) -> ControlFlow<Answered, Answered>
     requires counts { (held ≤ most_held) × (owed ≤ most_owed) × (is_still (kinds_lent lent.old) 0 owed ≡ true) }
-    requires within { (i ≤ length octets.now) × (length lent.old ≡ lent_size) × (at ≤ length to_client.old) }
+    requires within { (i ≤ length octets.now) × (at ≤ length to_client.old) }
     ensures { let line = octets.now in
         let before = lent.old in
         let out = to_client.old in
@@ -230,7 +231,7 @@ fn server_line(
         (λ answered. AnsweredPlain line i held owed opening before out at answered after then × (i < answered.taken))
         (λ answered. AnsweredPlain line i held owed opening before out at answered after then) }
 {
-    let j = hold_run(octets, i, &mut lent[LENT_REPLY..LENT_SIZE], held);
+    let j = hold_run(octets, i, &mut lent[LENT_REPLY..], held);
     let n = held + (j - i);
     let read = text(held, &octets[i..j], &lent[LENT_REPLY..LENT_REPLY + n]);
     if may_end(octets, j, held, read, to_client.len() - at) {
@@ -266,13 +267,12 @@ fn server_lines(
     code: u32,
     octets: &[u8],
     from: usize,
-    lent: &mut [u8],
+    lent: &mut [u8; LENT_SIZE],
     to_client: &mut [u8],
     first: usize,
 ) -> Answered
     requires counts { (start ≤ most_held) × (before ≤ most_owed) × (is_still (kinds_lent lent.old) 0 before ≡ true) }
-    requires within { (from ≤ length octets.now) × (length lent.old ≡ lent_size)
-        × (first ≤ length to_client.old) }
+    requires within { (from ≤ length octets.now) × (first ≤ length to_client.old) }
     ensures { AnsweredPlain octets.now from start before code lent.old to_client.old
         first result lent.new to_client.new }
 {
@@ -315,13 +315,12 @@ fn plain_commands(
     control: Control,
     octets: &[u8],
     i: usize,
-    lent: &mut [u8],
+    lent: &mut [u8; LENT_SIZE],
     to_server: &mut [u8],
     written: Written,
 ) -> RunPart
     requires counts { Counted control × (is_still (kinds_lent lent.old) 0 control.owed ≡ true) }
-    requires within { (i ≤ length octets.now) × (length lent.old ≡ lent_size)
-        × (written.server ≤ length to_server.old) }
+    requires within { (i ≤ length octets.now) × (written.server ≤ length to_server.old) }
     ensures ran { let l = octets.now in
         let out = to_server.old in
         let after = to_server.new in
@@ -366,13 +365,12 @@ fn plain_replies(
     control: Control,
     octets: &[u8],
     i: usize,
-    lent: &mut [u8],
+    lent: &mut [u8; LENT_SIZE],
     to_client: &mut [u8],
     written: Written,
 ) -> RunPart
     requires counts { Counted control × (is_still (kinds_lent lent.old) 0 control.owed ≡ true) }
-    requires within { (i ≤ length octets.now) × (length lent.old ≡ lent_size)
-        × (written.client ≤ length to_client.old) }
+    requires within { (i ≤ length octets.now) × (written.client ≤ length to_client.old) }
     ensures ran { let l = octets.now in
         let out = to_client.old in
         let after = to_client.new in
@@ -419,13 +417,13 @@ pub fn plain_lines(
     control: Control,
     octets: &[u8],
     i: usize,
-    lent: &mut [u8],
+    lent: &mut [u8; LENT_SIZE],
     to_server: &mut [u8],
     to_client: &mut [u8],
     written: Written,
 ) -> RunPart
     requires bounds { Bounded control written to_server.old to_client.old }
-    requires within { (i ≤ length octets.now) × (length lent.old ≡ lent_size) }
+    requires within { i ≤ length octets.now }
     ensures ran { let k = core_lent control lent.old to_server.old to_client.old written in
         let m = core_lent result.control lent.new to_server.new to_client.new
         result.written in

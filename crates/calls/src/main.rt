@@ -12,6 +12,7 @@ use places::first_octets;
 use records::Session;
 use rules::SETUP;
 use session::Called;
+use std::alloc::Global;
 use std::io;
 use std::io::{BufWriter, Write};
 
@@ -34,14 +35,14 @@ struct Call<'a> {
 fn main(rt: HostRuntime) -> io::Result<()> {
     let input = streams::read_most(rt.alloc(), rt.reader(), MOST)?;
     let mut out = BufWriter::new(rt.alloc(), io::writer(&rt))?;
-    run_scripts(&mut out, input.as_slice())?;
+    run_scripts(rt.alloc(), &mut out, input.as_slice())?;
     out.flush()
 }
 
-fn run_scripts(out: &mut impl Write, input: &[u8]) -> io::Result<()> {
+fn run_scripts(alloc: Global, out: &mut impl Write, input: &[u8]) -> io::Result<()> {
     let mut rest = input;
     while let Some((script, behind)) = split_script(rest) {
-        run_script(out, script)?;
+        run_script(alloc, out, script)?;
         rest = behind;
     }
     Ok(())
@@ -55,36 +56,32 @@ fn split_script(input: &[u8]) -> Option<(&[u8], &[u8])>
     rest.split_at_checked(u32::from_be_bytes(*size) as usize)
 }
 
-// Runs a script twice: its results are measured before they are written.
-fn run_script(out: &mut impl Write, script: &[u8]) -> io::Result<()> {
+// Runs a script; its results stand behind their length.
+fn run_script(alloc: Global, out: &mut impl Write, script: &[u8]) -> io::Result<()> {
     let Some((setup, calls)) = script.split_at_checked(SETUP) else {
         return write_number(out, 0);
     };
     let prepared = setups::setup_from(setup);
-    let length = run_calls(out, prepared.session, calls, false)?;
-    write_number(out, length.wrapping_add(1))?;
-    write_octet(out, u8::from(prepared.answer))?;
-    run_calls(out, prepared.session, calls, true)?;
-    Ok(())
+    let mut results = Vec::new(alloc);
+    write_octet(&mut results, u8::from(prepared.answer))?;
+    run_calls(&mut results, prepared.session, calls)?;
+    write_number(out, low_half(results.len()))?;
+    out.write_all(results.as_slice())
 }
 
-// How long the results of a script's calls are; they are written where that is asked for.
-fn run_calls(out: &mut impl Write, start: Session, calls: &[u8], writes: bool) -> io::Result<u32> {
+// The results of a script's calls, one behind the other.
+fn run_calls(out: &mut impl Write, start: Session, calls: &[u8]) -> io::Result<()> {
     let mut to_server = [0u8; ROOM];
     let mut to_client = [0u8; ROOM];
     let mut session = start;
-    let mut length = 0u32;
     let mut rest = calls;
     while let Some((call, behind)) = split_call(rest) {
         let called = run_call(session, call, &mut to_server, &mut to_client);
-        if writes {
-            write_called(out, called, &to_server, &to_client)?;
-        }
+        write_called(out, called, &to_server, &to_client)?;
         session = called.session;
-        length = length.wrapping_add(called_length(called));
         rest = behind;
     }
-    Ok(length)
+    Ok(())
 }
 
 // The call in front, and what stands behind it; none where there is no whole one.
@@ -135,13 +132,6 @@ fn write_called(
     out.write_all(first_octets(to_client, called.written.client))?;
     write_number(out, offset(called.session, 0))?;
     write_number(out, offset(called.session, 1))
-}
-
-// How long the result of a call is: one octet, five numbers, and what was written.
-fn called_length(called: Called) -> u32 {
-    low_half(called.written.server)
-        .wrapping_add(low_half(called.written.client))
-        .wrapping_add(21)
 }
 
 fn offset(session: Session, direction: u8) -> u32 {

@@ -45,11 +45,12 @@ fn counted(counts: Counts, taken: usize, written: usize) -> Counts
     ensures { result ≡ counted_by counts taken written }
 {
     Counts {
-        taken: std::num::wrapping_add_u32(counts.taken, low_half(taken)),
-        written: std::num::wrapping_add_u32(counts.written, low_half(written)),
+        taken: counts.taken.wrapping_add(low_half(taken)),
+        written: counts.written.wrapping_add(low_half(written)),
     }
 }
 
+// The program `calls` has one of its own: a line is less than a function that another crate can reach.
 fn low_half(n: usize) -> u32
     ensures { result ≡ wrapped n }
 {
@@ -72,7 +73,8 @@ pub fn written_from(from_client: bool, n: usize) -> Written
     }
 }
 
-// The offset of a direction: written minus taken, modulo 2^32.
+// The offset of a direction: written minus taken, modulo 2^32. Directions are numbers, since number 3 refuses one that
+// there is not.
 pub fn offset(session: Session, direction: u8) -> Option<u32>
     ensures { result ≡ offset_in session direction }
 {
@@ -83,5 +85,5 @@ pub fn offset(session: Session, direction: u8) -> Option<u32>
     if direction == 1 {
         counts = session.down;
     }
-    Some(std::num::wrapping_sub_u32(counts.written, counts.taken))
+    Some(counts.written.wrapping_sub(counts.taken))
 }

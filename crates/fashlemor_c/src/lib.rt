@@ -1,5 +1,6 @@
 // The functions that a host in C calls, by the names that relay/fashlemor.h declares. Each is the function of that name
-// in the crate fashlemor, whose clauses it has word for word.
+// in the crate fashlemor, whose clauses it has word for word: a static library exports names, and no crate stands on
+// one, so both are there.
 #![tactic(auto)]
 
 ghost use Rattle.std.specs.Prelude.{◌≡◌};

@@ -10,7 +10,8 @@ use records::layout;
 use rules::Answer;
 use steps::Written;
 
-// What a call on an image tells: its answer, how many octets it took, and how many it wrote into each buffer.
+// What a call on an image tells, in every case: its answer, how many octets it took, and how many it wrote into each
+// buffer.
 #[derive(Clone, Copy)]
 pub struct Told {
     pub answer: Answer,

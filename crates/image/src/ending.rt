@@ -9,11 +9,14 @@ ghost use Rattle.image.specs.Lent.{ended_on, ended_with, place_at, telnet_at, he
 ghost use Rattle.image.specs.Lent.{image_after, server_after, client_after, Tells};
 
 use crate::arrival::nothing_written;
-use crate::{Told, control_in, is_image, number_at, put_number, refusal_in};
+use crate::{
+    Told, control_in, is_image, number_at, place_number, put_number, refusal_in, telnet_number,
+};
 use counts::written_from;
 use gives::{passed_length, put_passed};
+use places::Place;
 use records::{direction_of, layout, unfinished_of};
-use rules::Answer;
+use rules::{Answer, Telnet};
 use telnet::{put_unfinished, unfinished_length};
 
 // A direction ends: its held octets go into its buffer, and a Telnet command that is unfinished behind them. A call
@@ -52,7 +55,7 @@ fn end_held(image: &mut [u8], from_client: bool, out: &mut [u8]) -> Told
     let control = control_in(image);
     let direction = direction_of(control, from_client);
     let tail = unfinished_of(control, from_client);
-    let at = line_at(from_client);
+    let at = fields_at(from_client).line;
     let held = &image[at..at + direction.held];
     if out.len() < passed_length(held) + unfinished_length(tail) {
         return nothing_written(Answer::NoRoom);
@@ -74,63 +77,46 @@ fn put_end(image: &mut [u8], from_client: bool, n: usize)
     ensures { let before = image.old in
         image.new ≡ put_at before 0 (image_of (ended_with (fields_in before) (side_if from_client) n)) }
 {
-    let place = place_at(from_client);
-    let mark = telnet_at(from_client);
-    let count = held_at(from_client);
-    let sum = written_at(from_client);
-    let before = number_at(image, sum);
-    image[place] = 3;
-    image[mark] = 0;
-    put_number(image, count, 0);
-    put_number(image, sum, std::num::wrapping_add_u32(before, n as u32));
+    let at = fields_at(from_client);
+    let before = number_at(image, at.written);
+    image[at.place] = place_number(Place::Ended);
+    image[at.telnet] = telnet_number(Telnet::Clear);
+    put_number(image, at.held, 0);
+    let sum = before.wrapping_add(n as u32);
+    put_number(image, at.written, sum);
 }
 
-// Where the place of a direction lies in an image.
-fn place_at(from_client: bool) -> usize
-    ensures { result ≡ place_at (side_if from_client) }
-{
-    if from_client {
-        return layout::CLIENT_PLACE;
-    }
-    layout::SERVER_PLACE
+// Where the fields of a direction lie that its end changes, and its line.
+#[derive(Clone, Copy)]
+struct EndFields {
+    place: usize,
+    telnet: usize,
+    held: usize,
+    written: usize,
+    line: usize,
 }
 
-// Where its Telnet state lies.
-fn telnet_at(from_client: bool) -> usize
-    ensures { result ≡ telnet_at (side_if from_client) }
+fn fields_at(from_client: bool) -> EndFields
+    ensures place { result.place ≡ place_at (side_if from_client) }
+    ensures telnet { result.telnet ≡ telnet_at (side_if from_client) }
+    ensures held { result.held ≡ held_at (side_if from_client) }
+    ensures written { result.written ≡ written_at (side_if from_client) }
+    ensures line { result.line ≡ line_at (side_if from_client) }
 {
     if from_client {
-        return layout::CLIENT_TELNET;
+        return EndFields {
+            place: layout::CLIENT_PLACE,
+            telnet: layout::CLIENT_TELNET,
+            held: layout::CLIENT_HELD,
+            written: layout::UP_WRITTEN,
+            line: layout::COMMAND,
+        };
     }
-    layout::SERVER_TELNET
-}
-
-// Where the number of its held octets lies.
-fn held_at(from_client: bool) -> usize
-    ensures { result ≡ held_at (side_if from_client) }
-{
-    if from_client {
-        return layout::CLIENT_HELD;
+    EndFields {
+        place: layout::SERVER_PLACE,
+        telnet: layout::SERVER_TELNET,
+        held: layout::SERVER_HELD,
+        written: layout::DOWN_WRITTEN,
+        line: layout::REPLY,
     }
-    layout::SERVER_HELD
-}
-
-// Where its line lies: the command's, or the reply's.
-fn line_at(from_client: bool) -> usize
-    ensures { result ≡ line_at (side_if from_client) }
-{
-    if from_client {
-        return layout::COMMAND;
-    }
-    layout::REPLY
-}
-
-// Where what it has written is counted.
-fn written_at(from_client: bool) -> usize
-    ensures { result ≡ written_at (side_if from_client) }
-{
-    if from_client {
-        return layout::UP_WRITTEN;
-    }
-    layout::DOWN_WRITTEN
 }

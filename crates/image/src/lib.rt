@@ -327,6 +327,7 @@ fn control_in(image: &[u8]) -> Control
     }
 }
 
+// These lead back, and are functions for the same reason.
 fn place_of(n: u8) -> Place
     ensures { result ≡ place_of n }
 {

@@ -128,9 +128,9 @@ module _ (y : List ℕ) (size : length y ≡ 15) where
 
 -- the reserved octet of a prefix: there is none, or it is that of its address
 module _ (n : ℕ) (x : List ℕ) where
-  pub prefix-none : n < 72 → has_reserved_bits (prefix_of n x) ≡ false
+  pub prefix_none : n < 72 → has_reserved_bits (prefix_of n x) ≡ false
   unfolding has_reserved_bits prefix_of
-  prefix-none h =
+  prefix_none h =
       let size = length-take (n / 8) x in
       rw (get_or-eq_default (take (n / 8) x) 0 {n = reserved} (omega arith))
 
@@ -139,11 +139,10 @@ module _ (n : ℕ) (x : List ℕ) where
   prefix_same h = rw (get_or-take (n / 8) x reserved 0 (omega arith))
 
 -- what stands in front of the IPv4 address, and it, put into zeros
-pub placed-put : (prefix : List ℕ) (n : ℕ) (ipv4 : List ℕ) → length prefix ≡ ipv6_width → n ≤ 96 → length ipv4 ≡ ipv4_width
+pub placed-put : (prefix : List ℕ) (n : ℕ) (ipv4 : List ℕ) → length prefix ≡ ipv6_width → ipv4_at n ≤ 11 → length ipv4 ≡ ipv4_width
     → with_reserved (put_at (put_at (replicate 15 0) 0 (take (ipv4_at n) (without_reserved prefix))) (ipv4_at n) ipv4) ≡ embedded prefix n ipv4
 unfolding embedded no_suffix suffix_at
-placed-put prefix n ipv4 size most four =
-    let at = ipv4_at-most n most in
+placed-put prefix n ipv4 size at four =
     let all = length_without prefix size in
     let before = length-take-le (ipv4_at n) (without_reserved prefix) (omega arith) in
     let put = both-put 15 0 (ipv4_at n) (take (ipv4_at n) (without_reserved prefix)) ipv4 (omega arith) (omega arith) in

@@ -8,7 +8,7 @@ use borrow.Author.Tests.{ltb-true, ltb-false}
 use Rattle.rules.specs.Setup.{ipv6_width, ipv4_width}
 use Rattle.prefix.specs.Prefix.{prefix_of, has_reserved_bits, embedded, extracted, address_given, embedding, extracting}
 use Rattle.prefix.specs.Returns.{SameIpv4, SameIpv6, NotLookedAt, RefusedZeros}
-use Rattle.prefix.proofs.Placed.{prefix-none, prefix_same, extracted-embedded, embedded-clear, embedded-extracted}
+use Rattle.prefix.proofs.Placed.{prefix_none, prefix_same, extracted-embedded, embedded-clear, embedded-extracted}
 use Rattle.prefix.proofs.Told.{done, is-done, done-most, given, zeros_of, embedding-told, extracting-told}
 
 -- a prefix has no bit there that its address has not
@@ -16,7 +16,7 @@ prefix-clear : (n : ℕ) (ipv6 : List ℕ) → has_reserved_bits ipv6 ≡ false 
 prefix-clear n ipv6 clear = by_length (ltb n 72) refl
   where
     by_length : (t : Bool) → ltb n 72 ≡ t → has_reserved_bits (prefix_of n ipv6) ≡ false
-    by_length true e = prefix-none n ipv6 (ltb-true n 72 e)
+    by_length true e = prefix_none n ipv6 (ltb-true n 72 e)
     by_length false e = prefix_same n ipv6 (ltb-false n 72 e) ∙ clear
 
 pub same-ipv4 : SameIpv4

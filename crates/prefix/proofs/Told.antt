@@ -1,5 +1,5 @@
 -- What is told of a call: its answer, and the address unless it is refused.
-use mathlib.Core.Path.{◌≡◌, refl, sym}
+use mathlib.Core.Path.{◌≡◌, refl}
 use mathlib.Core.Bool.{Bool, true, false}
 use mathlib.Core.List.{List}
 use mathlib.Core.Logic.{◌≢◌}
@@ -52,10 +52,6 @@ unfolding address_given
 zeros_of width Done address refused = absurd (refused refl)
 zeros_of width BadLength address refused = refl
 zeros_of width ReservedBits address refused = refl
-
-pub zeros-given : (width : ℕ) (answer : PrefixAnswer) (address : List ℕ) → answer ≢ Done
-    → replicate width 0 ≡ address_given width answer address
-zeros-given width answer address refused = sym (zeros_of width answer address refused)
 
 pub embedding-told : (prefix : List ℕ) (n : ℕ) (ipv4 : List ℕ) {bits : Bool} {answer : PrefixAnswer} {ipv6 : List ℕ}
     → bits ≡ has_reserved_bits (prefix_of n prefix) → answer ≡ prefix_answer n bits → ipv6 ≡ address_given ipv6_width answer (embedded prefix n ipv4)

@@ -3,14 +3,16 @@
 // and that is how both functions go about it.
 #![tactic(auto)]
 
-ghost use Rattle.std.specs.Prelude.{◌≡◌, ◌≤◌, length, take, drop};
+ghost use Rattle.std.specs.Prelude.{◌≡◌, ◌≤◌, ℕ, Some, None, Ok, Err, length, take, drop};
 ghost use Rattle.output.specs.Buffer.{put_at};
+ghost use Rattle.rules.specs.Octets.{choose};
 ghost use Rattle.prefix.specs.Prefix.{prefix_lengths, is_one_of, prefix_of, reserved, has_reserved_bits, ipv4_at};
 ghost use Rattle.prefix.specs.Prefix.{without_reserved, with_reserved, embedded, extracted};
-ghost use Rattle.prefix.specs.Prefix.{prefix_number, prefix_answer, embedding, extracting};
+ghost use Rattle.prefix.specs.Prefix.{prefix_number, embedding, extracting};
 
 use output::{array_from, put};
 use rules::{IPV4, IPV6};
+use std::marker::Model;
 
 mod slices;
 
@@ -49,13 +51,12 @@ pub struct Extracted {
 pub fn embed(prefix: [u8; IPV6], length: u64, ipv4: [u8; IPV4]) -> Embedded
     ensures { result ≡ embedding prefix length ipv4 }
 {
-    let answer = answer_for(length, has_reserved_prefix(prefix, length));
-    match answer {
-        PrefixAnswer::Done => Embedded {
-            answer,
+    match judged(length, has_reserved_prefix(prefix, length)) {
+        Ok(length) => Embedded {
+            answer: PrefixAnswer::Done,
             ipv6: behind_prefix(prefix, length, ipv4),
         },
-        _ => Embedded {
+        Err(answer) => Embedded {
             answer,
             ipv6: [0u8; IPV6],
         },
@@ -66,13 +67,12 @@ pub fn embed(prefix: [u8; IPV6], length: u64, ipv4: [u8; IPV4]) -> Embedded
 pub fn extract(ipv6: [u8; IPV6], length: u64) -> Extracted
     ensures { result ≡ extracting ipv6 length }
 {
-    let answer = answer_for(length, has_reserved_bits(ipv6));
-    match answer {
-        PrefixAnswer::Done => Extracted {
-            answer,
+    match judged(length, has_reserved_bits(ipv6)) {
+        Ok(length) => Extracted {
+            answer: PrefixAnswer::Done,
             ipv4: ipv4_in(ipv6, length),
         },
-        _ => Extracted {
+        Err(answer) => Extracted {
             answer,
             ipv4: [0u8; IPV4],
         },
@@ -92,26 +92,61 @@ impl From<PrefixAnswer> for u8 {
     }
 }
 
+// The length of a prefix: one of the six, and so one behind which an IPv4 address has room.
+#[derive(Clone, Copy)]
+struct PrefixLength {
+    bits: u64,
+}
+
+impl Model for PrefixLength {
+    ghost Value = { ℕ };
+
+    ghost view = { λ l. l.bits };
+
+    ghost invariant = { λ l. l.bits ≤ 96 };
+
+    ghost inverse = { λ n. record { bits = n } };
+}
+
+impl PrefixLength {
+    #[tactic(auto, unfolding(crate::specs::Prefix::is_one_of, rules::specs::Octets::choose))]
+    fn new(bits: u64) -> Option<Self>
+        ensures { result ≡ choose (is_one_of prefix_lengths bits) (Some bits) None }
+    {
+        match bits {
+            32 | 40 | 48 | 56 | 64 | 96 => Some(PrefixLength { bits }),
+            _ => None,
+        }
+    }
+
+    // Where the IPv4 address begins in the parts of an address.
+    #[tactic(auto, unfolding(crate::specs::Prefix::ipv4_at, rules::specs::Octets::choose))]
+    fn ipv4_at(self) -> usize
+        ensures result { result ≡ ipv4_at self }
+        ensures most { result ≤ 11 }
+    {
+        let octets = (self.bits / 8) as usize;
+        if octets <= RESERVED {
+            return octets;
+        }
+        octets - 1
+    }
+}
+
 // Number 9 for another length, and only then number 10.
-#[tactic(auto, unfolding(crate::specs::Prefix::prefix_answer, rules::specs::Octets::choose))]
-fn answer_for(length: u64, bits: bool) -> PrefixAnswer
-    ensures { result ≡ prefix_answer length bits }
+#[tactic(auto, unfolding(rules::specs::Octets::choose))]
+fn judged(length: u64, bits: bool) -> Result<PrefixLength, PrefixAnswer>
+    ensures { let listed = is_one_of prefix_lengths length in
+        result ≡ choose listed (choose bits (Err PrefixAnswer.ReservedBits) (Ok length)) (Err PrefixAnswer.BadLength) }
 {
-    if !is_prefix_length(length) {
-        return PrefixAnswer::BadLength;
-    }
+    let judged = PrefixLength::new(length).ok_or(PrefixAnswer::BadLength)?;
     if bits {
-        return PrefixAnswer::ReservedBits;
+        return Err(PrefixAnswer::ReservedBits);
     }
-    PrefixAnswer::Done
+    Ok(judged)
 }
 
-fn is_prefix_length(length: u64) -> bool
-    ensures { result ≡ is_one_of prefix_lengths length }
-{
-    matches!(length, 32 | 40 | 48 | 56 | 64 | 96)
-}
-
+#[tactic(auto, unfolding(crate::specs::Prefix::has_reserved_bits))]
 fn has_reserved_bits(ipv6: [u8; IPV6]) -> bool
     ensures { result ≡ has_reserved_bits ipv6 }
 {
@@ -119,6 +154,7 @@ fn has_reserved_bits(ipv6: [u8; IPV6]) -> bool
 }
 
 // The same of a prefix, to which bits past its length do not belong: one of fewer than 72 bits has none of these.
+#[tactic(auto, using(crate::proofs::Placed::prefix_none, crate::proofs::Placed::prefix_same))]
 fn has_reserved_prefix(prefix: [u8; IPV6], length: u64) -> bool
     ensures { result ≡ has_reserved_bits (prefix_of length prefix) }
 {
@@ -126,19 +162,6 @@ fn has_reserved_prefix(prefix: [u8; IPV6], length: u64) -> bool
         return false;
     }
     has_reserved_bits(prefix)
-}
-
-// Where the IPv4 address begins in the parts of an address.
-fn ipv4_at(length: u64) -> usize
-    requires { length ≤ 96 }
-    ensures result { result ≡ ipv4_at length }
-    ensures most { result ≤ 11 }
-{
-    let octets = (length / 8) as usize;
-    if octets <= RESERVED {
-        return octets;
-    }
-    octets - 1
 }
 
 fn without_reserved(ipv6: [u8; IPV6]) -> Parts
@@ -168,12 +191,11 @@ fn put_ends(out: &mut [u8], at: usize, src: &[u8], from: usize)
 }
 
 // The first bits of the prefix, the IPv4 address, and a suffix of zeros.
-fn behind_prefix(prefix: [u8; IPV6], length: u64, ipv4: [u8; IPV4]) -> [u8; IPV6]
-    requires { length ≤ 96 }
+fn behind_prefix(prefix: [u8; IPV6], length: PrefixLength, ipv4: [u8; IPV4]) -> [u8; IPV6]
     ensures { result ≡ embedded prefix length ipv4 }
 {
     let given = without_reserved(prefix);
-    let at = ipv4_at(length);
+    let at = length.ipv4_at();
     let mut parts = [0u8; IPV6 - 1];
     put(&mut parts, 0, &given[..at]);
     put(&mut parts, at, &ipv4);
@@ -181,11 +203,10 @@ fn behind_prefix(prefix: [u8; IPV6], length: u64, ipv4: [u8; IPV4]) -> [u8; IPV6
 }
 
 // The four octets behind the prefix.
-fn ipv4_in(ipv6: [u8; IPV6], length: u64) -> [u8; IPV4]
-    requires { length ≤ 96 }
+fn ipv4_in(ipv6: [u8; IPV6], length: PrefixLength) -> [u8; IPV4]
     ensures { result ≡ extracted ipv6 length }
 {
     let parts = without_reserved(ipv6);
-    let at = ipv4_at(length);
+    let at = length.ipv4_at();
     array_from(&parts[at..at + IPV4])
 }

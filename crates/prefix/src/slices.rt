@@ -19,10 +19,8 @@ pub fn embed_into(prefix: &[u8], length: u64, ipv4: &[u8], ipv6: &mut [u8]) -> P
         return PrefixAnswer::BadLength;
     }
     let made = embed(array_from(prefix), length, array_from(ipv4));
-    let answer = made.answer;
-    let octets = made.ipv6;
-    put(ipv6, 0, &octets);
-    answer
+    put(ipv6, 0, &made.ipv6);
+    made.answer
 }
 
 // Takes the IPv4 address out of an IPv6 address, into `ipv4`.
@@ -34,10 +32,8 @@ pub fn extract_into(ipv6: &[u8], length: u64, ipv4: &mut [u8]) -> PrefixAnswer
         return PrefixAnswer::BadLength;
     }
     let taken = extract(array_from(ipv6), length);
-    let answer = taken.answer;
-    let octets = taken.ipv4;
-    put(ipv4, 0, &octets);
-    answer
+    put(ipv4, 0, &taken.ipv4);
+    taken.answer
 }
 
 // Whether slices of these lengths are for an IPv6 and an IPv4 address.

@@ -2,15 +2,14 @@
 // what is put in and leaves.
 #![tactic(auto)]
 
-ghost use Rattle.std.specs.Prelude.{◌≡◌, ◌+◌, ◌≤◌, length, drop, replicate};
+ghost use Rattle.std.specs.Prelude.{◌≡◌, ◌+◌, ◌≤◌, length, drop};
 ghost use Rattle.rules.specs.Replies.{head_answers, auth_at_head};
-ghost use Rattle.rules.specs.Answers.{most_answers, most_owed};
-ghost use Rattle.output.specs.Buffer.{Put, put_at};
+ghost use Rattle.rules.specs.Answers.{most_answers};
+ghost use Rattle.output.specs.Buffer.{Put};
 ghost use Rattle.queue.specs.Kinds.{answer_code, code_of, state_kind, kind_of, queue_of, head_of, answers_at_head};
 ghost use Rattle.queue.specs.Kinds.{pushed, shifted_in, is_still};
 ghost use Rattle.queue.specs.Heads.{next_of, next_first, next_is_auth, plan_of};
 
-use output::put;
 use own::{answer_length, put_answer};
 use rules::{Kind, Kinds, OWED, OwnAnswer, Switches};
 
@@ -68,14 +67,6 @@ fn state_kind(epsv: bool, eprt: bool) -> Kind
     ensures { result ≡ state_kind epsv eprt }
 {
     Kind::Own(OwnAnswer::State(Switches { epsv, eprt }))
-}
-
-// How far the own answers at the head of a queue reach, how many octets they have in all, and whether AUTH follows.
-#[derive(Clone, Copy)]
-struct AnswersDue {
-    until: usize,
-    length: usize,
-    auth: bool,
 }
 
 // How the queue will settle: how many kinds leave it, how long their answers are, and whether AUTH is first then.
@@ -136,22 +127,23 @@ fn is_auth(next: Next) -> bool
 }
 
 // The own answers at the head of what is owed from number `from` on.
-fn due(kinds: Kinds, from: usize, owed: usize) -> AnswersDue
+fn due(kinds: Kinds, from: usize, owed: usize) -> Plan
     ensures result { let rest = drop from (queue_of kinds owed) in
-        (result.until ≡ from + answers_at_head rest) × (result.length ≡ length (head_answers rest)) }
-    ensures after { result.auth ≡ auth_at_head (drop result.until (queue_of kinds owed)) }
-    ensures most { result.length ≤ most_answers }
+        (result.leaving ≡ from + answers_at_head rest) × (result.answers ≡ length (head_answers rest)) }
+    ensures after { result.auth ≡ auth_at_head (drop result.leaving (queue_of kinds owed)) }
+    ensures most { result.answers ≤ most_answers }
 {
-    let mut until = from;
-    let mut length = 0;
-    while let Next::Answer(answer) = next_at(kinds, until, owed) {
-        length += answer_length(answer);
-        until += 1;
+    let mut leaving = from;
+    let mut answers = 0;
+    // `leaving` is told, and no mere index.
+    while let Next::Answer(answer) = next_at(kinds, leaving, owed) {
+        answers += answer_length(answer);
+        leaving += 1;
     }
-    AnswersDue {
-        until,
-        length,
-        auth: is_auth(next_at(kinds, until, owed)),
+    Plan {
+        leaving,
+        answers,
+        auth: is_auth(next_at(kinds, leaving, owed)),
     }
 }
 
@@ -163,11 +155,12 @@ pub fn put_answers(out: &mut [u8], at: usize, kinds: Kinds, from: usize, owed: u
     if out.len() < at {
         return at;
     }
-    let answers = due(kinds, from, owed);
-    if out.len() - at < answers.length {
+    let own = due(kinds, from, owed);
+    if out.len() - at < own.answers {
         return at;
     }
     let mut place = at;
+    // By the same walk, whose end the queue itself tells.
     let mut i = from;
     while let Next::Answer(answer) = next_at(kinds, i, owed) {
         place = put_answer(out, place, answer);
@@ -224,12 +217,7 @@ pub fn planned(kinds: Kinds, from: usize, owed: usize, blocked: bool) -> Plan
             auth: is_auth(next_at(kinds, from, owed)),
         };
     }
-    let d = due(kinds, from, owed);
-    Plan {
-        leaving: d.until,
-        answers: d.length,
-        auth: d.auth,
-    }
+    due(kinds, from, owed)
 }
 
 // The kinds are moved `by` positions to the front, where they lie.

@@ -1,5 +1,4 @@
 -- Laws that the proofs of this crate's functions, and of those above it, cite.
 pub mod Sides
 pub mod Refusals
-mod Waiting
 pub mod Limits

@@ -1,36 +1,20 @@
 -- Whether the queue is full, and whether counts can be held, by the tests of the code.
 use mathlib.Core.Path.{◌≡◌, sym, ◌∙◌}
 use mathlib.Core.Bool.{Bool, true, false, ◌&&◌}
-use Prim.Native.Nat.{ℕ, ◌≤◌, ◌<◌}
+use Prim.Native.Nat.{ℕ, ◌≤◌}
 use lib.Dec.{leb}
-use borrow.Author.Tests.{le-leb, lt-leb, leb-true}
+use borrow.Author.Tests.{le-leb, leb-true}
 use Rattle.rules.specs.Lines.{judged, most_held}
 use Rattle.rules.specs.Answers.{most_owed, is_queue_full}
 use Rattle.octets.proofs.Ranges.{and_both}
 use Rattle.records.specs.declared.Control.{Control}
 use Rattle.records.specs.Sound.{holdable, Counted, side_if}
 
-pub never-server : (b p : Bool) (owed : ℕ) → b ≡ false → false ≡ is_queue_full (side_if b) p owed
-unfolding is_queue_full
-never-server b p owed e = rw e
-
-pub never-passing : (b p : Bool) (owed : ℕ) → b ≡ true → p ≡ true → false ≡ is_queue_full (side_if b) p owed
-unfolding is_queue_full
-never-passing b p owed e q = rw (e, q)
-
 pub full-by-count : (b p : Bool) (owed : ℕ) → b ≡ true → p ≡ false → leb most_owed owed ≡ is_queue_full (side_if b) p owed
 unfolding is_queue_full
 full-by-count b p owed e q = rw (e, q)
 
 module _ (c : Control) where
-  pub not-holdable-owed : most_owed < c.owed → false ≡ holdable c
-  unfolding holdable
-  not-holdable-owed h = rw (lt-leb c.owed most_owed h)
-
-  pub not-holdable-command : c.owed ≤ most_owed → most_held < c.client.held → false ≡ holdable c
-  unfolding holdable judged
-  not-holdable-command few h = rw (le-leb c.owed most_owed few, lt-leb c.client.held most_held h)
-
   pub holdable-by-reply : c.owed ≤ most_owed → c.client.held ≤ most_held → leb c.server.held most_held ≡ holdable c
   unfolding holdable judged
   holdable-by-reply few held = rw (le-leb c.owed most_owed few, le-leb c.client.held most_held held)

@@ -1,11 +1,11 @@
 -- What refuses a call, test by test, and what holds of a record that is not refused.
-use mathlib.Core.Path.{◌≡◌, refl, sym, ap, ◌∙◌}
+use mathlib.Core.Path.{◌≡◌, refl, sym, ◌∙◌}
 use mathlib.Core.Bool.{Bool, true, false, ◌&&◌, not, false≢true}
 use Rattle.std.specs.Prelude.{Option, None, Some}
 use Prim.Native.Nat.{ℕ, ◌<◌, ◌≤◌}
 use native.Mathlib.Omega.{arith}
 use lib.Dec.{leb}
-use borrow.Author.Tests.{le-leb, lt-leb, leb-true, eqb-true, ne_eqb, not-true, not-false}
+use borrow.Author.Tests.{le-leb, lt-leb, leb-true, eqb-true, not-true, not-false}
 use Rattle.rules.specs.Octets.{choose}
 use Rattle.rules.specs.Lines.{judged, most_held}
 use Rattle.rules.specs.Answers.{most_owed, sound_held, sound_record, refusal}
@@ -41,11 +41,6 @@ place-holding Place.Flowing e = absurd (false≢true e)
 place-holding Place.Passing e = absurd (false≢true e)
 place-holding Place.Ended e = absurd (false≢true e)
 
--- a direction's place says what it may hold
-pub at_place : (d : Direction) {p : Place} → d.place ≡ p → sound_held (is_holding p) d.held ≡ sound_direction d
-unfolding sound_direction
-at_place d e = sym (ap (λ (q : Place). sound_held (is_holding q) d.held) e)
-
 -- where nothing is held, it does not matter
 pub none-held : (d : Direction) → d.held ≡ 0 → true ≡ sound_direction d
 unfolding sound_direction sound_held choose judged
@@ -54,33 +49,6 @@ none-held d e = either (is_holding d.place)
     either : (b : Bool) → true ≡ sound_held b d.held
     either true = sym (le-leb d.held most_held (omega arith))
     either false = rw e
-
--- and some octets are held only where they may be
-pub some-held : (d : Direction) {p : Place} → d.place ≡ p → is_holding p ≡ false → (d.held ≡ 0 → ⊥) → false ≡ sound_direction d
-unfolding sound_held choose
-some-held d {p} e never there = sym (ne_eqb d.held 0 there) ∙ (ap (λ (b : Bool). sound_held b d.held) (sym never) ∙ at_place d e)
-
--- the tests of a record, in the code's order; each knows that those before it did not fail
-module _ (live : Bool) (owed : ℕ) (k c s : Bool) where
-  pub not_live : not live ≡ true → false ≡ sound_record live owed k c s
-  unfolding sound_record
-  not_live l = rw (not-true live l)
-
-  pub too_many : not live ≡ false → most_owed < owed → false ≡ sound_record live owed k c s
-  unfolding sound_record
-  too_many l o = rw (not-false live l, lt-leb owed most_owed o)
-
-  pub unlisted : not live ≡ false → owed ≤ most_owed → {k' : Bool} → k' ≡ k → not k' ≡ true → false ≡ sound_record live owed k c s
-  unfolding sound_record
-  unlisted l o p e = rw (not-false live l, le-leb owed most_owed o, sym p ∙ not-true _ e)
-
-  pub client-unsound : not live ≡ false → owed ≤ most_owed → {k' c' : Bool} → k' ≡ k → not k' ≡ false → c' ≡ c → not c' ≡ true → false ≡ sound_record live owed k c s
-  unfolding sound_record
-  client-unsound l o p e q f = rw (not-false live l, le-leb owed most_owed o, sym p ∙ not-false _ e, sym q ∙ not-true _ f)
-
-  pub by-server : not live ≡ false → owed ≤ most_owed → {k' c' s' : Bool} → k' ≡ k → not k' ≡ false → c' ≡ c → not c' ≡ false → s' ≡ s → s' ≡ sound_record live owed k c s
-  unfolding sound_record
-  by-server l o p e q f r = rw (not-false live l, le-leb owed most_owed o, sym p ∙ not-false _ e, sym q ∙ not-false _ f) r
 
 -- the three refusals, in order
 module _ (d : ℕ) (s e : Bool) where

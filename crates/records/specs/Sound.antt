@@ -1,6 +1,6 @@
 -- Which records number 4 refuses, and which calls are refused at all.
 use Rattle.std.specs.Prelude.{Bool, true, false, ◌&&◌, ◌||◌, List, ℕ, ◌≤◌, leb, take}
-use Rattle.std.specs.Prelude.{Option, None, Some}
+use Rattle.std.specs.Prelude.{Option}
 use Rattle.rules.specs.Octets.{every}
 use Rattle.rules.specs.Lines.{most_held}
 use Rattle.rules.specs.Replies.{is_open}

@@ -11,7 +11,7 @@ ghost use Rattle.records.specs.Controls.{telnet_read, with_ended};
 ghost use Rattle.records.specs.Sound.{sound_direction, sound_of, direction_of, refusal_on, refusal_of};
 ghost use Rattle.records.specs.Sound.{blocked as is_blocked, holdable as are_holdable, side_if};
 
-use places::{Direction, Place, copied, first_octets, has_ended, in_lines, is_passing};
+use places::{Direction, Place, copied, first_octets, has_ended, in_lines, is_holding, is_passing};
 use rules::{Answer, Fixed, HELD, Kinds, Layer, Line, OWED, Switches, Telnet};
 use telnet::cleared;
 
@@ -24,7 +24,8 @@ pub struct Control {
     pub client: Direction,
     pub server: Direction,
     pub owed: usize,
-    // The code that opened the server's reply of several lines, as a number; 0 where none is open.
+    // The code that opened the server's reply of several lines, as a number; 0 where none is open, as the record of C
+    // has it.
     pub opening: u32,
     // The Telnet layer of the client's octets, and of the server's.
     pub up: Layer,
@@ -38,7 +39,8 @@ pub struct Counts {
     pub written: u32,
 }
 
-// The record.
+// The record. The lengths `held` and `owed` stand beside arrays: it has a fixed size, in the memory of a host in C, and
+// nothing is allocated.
 #[derive(Clone, Copy)]
 pub struct Session {
     pub live: bool,
@@ -62,37 +64,17 @@ fn kinds_listed(kinds: &[u8]) -> bool
 fn sound_direction(direction: Direction) -> bool
     ensures { result ≡ sound_direction direction }
 {
-    if direction.held == 0 {
-        return true;
-    }
-    let place = direction.place;
-    match place {
-        Place::Holding => direction.held <= HELD,
-        Place::Flowing => false,
-        Place::Passing => false,
-        Place::Ended => false,
-    }
+    direction.held == 0 || (is_holding(direction) && direction.held <= HELD)
 }
 
 // A record of these parts is none that number 4 refuses.
 fn sound(live: bool, control: Control, kinds: &[u8]) -> bool
     ensures { result ≡ sound_of live control kinds.now }
 {
-    if !live {
-        return false;
-    }
-    if OWED < control.owed {
-        return false;
-    }
-    if !kinds_listed(first_octets(kinds, control.owed)) {
-        return false;
-    }
-    let client = control.client;
-    if !sound_direction(client) {
-        return false;
-    }
-    let server = control.server;
-    sound_direction(server)
+    live && control.owed <= OWED
+        && kinds_listed(first_octets(kinds, control.owed))
+        && sound_direction(control.client)
+        && sound_direction(control.server)
 }
 
 // The direction of a side.
@@ -136,17 +118,7 @@ pub fn refusal_of(session: Session, direction: u8) -> Option<Answer>
 pub fn blocked(control: Control) -> bool
     ensures { result ≡ is_blocked control }
 {
-    if control.opening != 0 {
-        return true;
-    }
-    let server = control.server;
-    let place = server.place;
-    match place {
-        Place::Holding => false,
-        Place::Flowing => true,
-        Place::Passing => false,
-        Place::Ended => true,
-    }
+    control.opening != 0 || matches!(control.server.place, Place::Flowing | Place::Ended)
 }
 
 // The control with what the client's octets change. It is built field by field: a struct that is copied whole is loaded
@@ -214,7 +186,7 @@ pub fn unfinished_of(control: Control, from_client: bool) -> Telnet
     layer.telnet
 }
 
-// The control with these Telnet layers.
+// The control with these Telnet layers; field by field, and not by `..control`, as in `with_client`.
 fn with_layers(control: Control, up: Layer, down: Layer) -> Control
     ensures { result ≡ with_layers control up down }
 {
@@ -263,27 +235,12 @@ pub fn with_ended(control: Control, from_client: bool) -> Control
 pub fn queue_full(from_client: bool, control: Control) -> bool
     ensures { result ≡ is_queue_full (side_if from_client) (is_passing control.client.place) control.owed }
 {
-    if !from_client {
-        return false;
-    }
-    let direction = control.client;
-    if is_passing(direction) {
-        return false;
-    }
-    OWED <= control.owed
+    from_client && !is_passing(control.client) && OWED <= control.owed
 }
 
 // The record's arrays can hold these counts.
 pub fn holdable(counts: Control) -> bool
     ensures { result ≡ are_holdable counts }
 {
-    if OWED < counts.owed {
-        return false;
-    }
-    let client = counts.client;
-    if HELD < client.held {
-        return false;
-    }
-    let server = counts.server;
-    server.held <= HELD
+    counts.owed <= OWED && counts.client.held <= HELD && counts.server.held <= HELD
 }

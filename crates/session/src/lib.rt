@@ -22,7 +22,7 @@ use rules::{Answer, IPV4, IPV6, Kinds, Line};
 use steps::Written;
 use telnet::{put_unfinished, unfinished_length};
 
-// What arrive and end return.
+// What arrive and end return: all of it in every case, whatever is answered.
 #[derive(Clone, Copy)]
 pub struct Called {
     pub answer: Answer,
@@ -31,7 +31,8 @@ pub struct Called {
     pub session: Session,
 }
 
-// Octets of a direction arrive; what they give goes into the two buffers.
+// Octets of a direction arrive; what they give goes into the two buffers. A direction is a number, since number 3
+// refuses one that there is not.
 pub fn arrive(
     session: Session,
     direction: u8,

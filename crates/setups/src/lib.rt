@@ -1,7 +1,8 @@
 // Setup: the record of a session, from a setup or from its octets.
 #![tactic(auto)]
 
-ghost use Rattle.std.specs.Prelude.{◌≡◌};
+ghost use Rattle.std.specs.Prelude.{◌≡◌, ◌<◌};
+ghost use Rattle.rules.specs.Setup.{bit};
 ghost use Rattle.setups.specs.Setups.{prepared, start_session, start_control, refused_setup, prepared_from};
 
 use output::array_from;
@@ -17,24 +18,31 @@ pub struct Prepared {
     pub session: Session,
 }
 
+// Bit i of the flags is set.
+fn has_flag(flags: u8, i: u8) -> bool
+    requires { i < 8 }
+    ensures { result ≡ bit i flags }
+{
+    (flags >> i) & 1 == 1
+}
+
 // A session from what a setup gives.
 pub fn setup(setup: Setup) -> Prepared
     ensures { result ≡ prepared setup }
 {
-    let flags = setup.flags;
-    let epsv = flags & 1 == 1;
-    let supported = (flags >> 1) & 1 == 1;
-    let eprt = (flags >> 2) & 1 == 1;
-    let strict = (flags >> 3) & 1 == 1;
-    if flags >> 4 != 0 {
+    let Setup {
+        client,
+        mapped,
+        flags,
+        server,
+    } = setup;
+    let epsv = has_flag(flags, 0);
+    let supported = has_flag(flags, 1);
+    let eprt = has_flag(flags, 2);
+    let strict = has_flag(flags, 3);
+    if flags >> 4 != 0 || (eprt && !supported) {
         return refused_setup();
     }
-    if eprt && !supported {
-        return refused_setup();
-    }
-    let client = setup.client;
-    let mapped = setup.mapped;
-    let server = setup.server;
     let fixed = Fixed {
         client,
         mapped,

@@ -121,21 +121,21 @@ module _ (lent : List ℕ) (all : length lent ≡ lent_size) where
         let reply = drop-drop most_held lent_command (put_mid lent_reply most_held lent p) ∙ (from ∙ (ap (λ (l : List ℕ). p ++ l) none ∙ append-nil p)) in
         λ i. state_from c (command i) (reply i) (reply-kinds i)
 
-  -- both lines, lent as the octets from 40 to the slice's length
-  pub lines-lent : mid_of lent_command (length lent - lent_command) lent ≡ lines_lent lent
-  lines-lent = take_all (length lent - lent_command) (drop lent_command lent) (omega (arith, length-drop lent_command lent))
+  -- both lines, lent as all octets from 40 on
+  pub lines-lent : mid_of lent_command lines_size lent ≡ lines_lent lent
+  lines-lent = take_all lines_size (drop lent_command lent) (omega (arith, all, length-drop lent_command lent))
 
-  module _ (p : List ℕ) (size : length p ≡ length lent - lent_command) where
-    pub lines-addresses : addresses_lent (put_mid lent_command (length lent - lent_command) lent p) ≡ addresses_lent lent
-    lines-addresses = put_front lent_command (length lent - lent_command) lent p (omega (arith, all)) size lent_kinds (omega arith)
+  module _ (p : List ℕ) (size : length p ≡ lines_size) where
+    pub lines-addresses : addresses_lent (put_mid lent_command lines_size lent p) ≡ addresses_lent lent
+    lines-addresses = put_front lent_command lines_size lent p (omega (arith, all)) size lent_kinds (omega arith)
 
-    pub lines-kinds : kinds_lent (put_mid lent_command (length lent - lent_command) lent p) ≡ kinds_lent lent
-    lines-kinds = put-before lent_command (length lent - lent_command) lent p (omega (arith, all)) size lent_kinds most_owed (omega arith)
+    pub lines-kinds : kinds_lent (put_mid lent_command lines_size lent p) ≡ kinds_lent lent
+    lines-kinds = put-before lent_command lines_size lent p (omega (arith, all)) size lent_kinds most_owed (omega arith)
 
-    pub lines-put : lines_lent (put_mid lent_command (length lent - lent_command) lent p) ≡ p
+    pub lines-put : lines_lent (put_mid lent_command lines_size lent p) ≡ p
     lines-put =
-        let none = drop_of_length-le (drop lent_command lent) {i = length lent - lent_command} (omega (arith, length-drop lent_command lent)) in
-        put-from lent_command (length lent - lent_command) lent p (omega (arith, all)) size ∙ (ap (λ (l : List ℕ). p ++ l) none ∙ append-nil p)
+        let none = drop_of_length-le (drop lent_command lent) {i = lines_size} (omega (arith, all, length-drop lent_command lent)) in
+        put-from lent_command lines_size lent p (omega (arith, all)) size ∙ (ap (λ (l : List ℕ). p ++ l) none ∙ append-nil p)
 
   -- a kind stored behind those owed
   pub kind-stored : (n x : ℕ) → n < most_owed → set lent (lent_kinds + n) x ≡ put_mid lent_kinds most_owed lent (set (kinds_lent lent) n x)

@@ -1,12 +1,12 @@
 -- One octet as an arrival of its own: what it answers, and the core behind it.
 use mathlib.Core.Path.{◌≡◌, sym, ap, ◌∙◌}
-use mathlib.Core.Bool.{Bool, true, false, ◌&&◌}
+use mathlib.Core.Bool.{Bool, true, false, ◌&&◌, and-false}
 use mathlib.Core.List.{List, [], ◌++◌, append-nil}
 use Prim.Native.Nat.{ℕ, ◌+◌, ◌≤◌, ◌<◌}
 use native.Mathlib.Omega.{arith}
-use lib.Dec.{leb, eqb}
+use lib.Dec.{leb}
 use lib.ListN.{length}
-use borrow.Author.Tests.{le-leb, lt-leb, leb-true, eq-eqb, ne_eqb, eqb-true}
+use borrow.Author.Tests.{le-leb, lt-leb, leb-true, ne_eqb}
 use Rattle.rules.specs.Octets.{choose}
 use Rattle.rules.specs.Answers.{Side, is_queue_full, stop}
 use Rattle.rules.specs.declared.Answer.{Answer}
@@ -26,48 +26,52 @@ use Rattle.steps.proofs.Octets.{core-same, core-next}
 
 -- ---- counts and places, test by test
 
-module _ (c : Control) (lent m n : ℕ) (w : Written) where
-  pub not-held : holdable c ≡ false → false ≡ is_within c lent m n w
+-- another number of lent octets
+pub not-lent : (c : Control) (lent m n : ℕ) (w : Written) → (lent ≡ lent_size → ⊥) → is_within c lent m n w ≡ false
+unfolding is_within
+not-lent c lent m n w k =
+    ap (λ (b : Bool). b && leb w.server m && leb w.client n) (ap (λ (b : Bool). holdable c && b) (ne_eqb lent lent_size k) ∙ and-false (holdable c))
+
+-- as many lent octets as an array of them has
+pub as-array : (c : Control) (lent to_server to_client : List ℕ) (w : Written) → length lent ≡ lent_size → {b : Bool}
+    → b ≡ is_within c lent_size (length to_server) (length to_client) w → is_within c (length lent) (length to_server) (length to_client) w ≡ b
+as-array c lent to_server to_client w long is = ap (λ (k : ℕ). is_within c k (length to_server) (length to_client) w) long ∙ sym is
+
+module _ (c : Control) (m n : ℕ) (w : Written) where
+  pub not-held : holdable c ≡ false → false ≡ is_within c lent_size m n w
   unfolding is_within
   not-held h = rw h
 
-  pub not-lent : holdable c ≡ true → (lent ≡ lent_size → ⊥) → false ≡ is_within c lent m n w
+  pub not-server : holdable c ≡ true → m < w.server → false ≡ is_within c lent_size m n w
   unfolding is_within
-  not-lent h k = rw (h, ne_eqb lent lent_size k)
+  not-server h less = rw (h, lt-leb w.server m less)
 
-  pub not-server : holdable c ≡ true → lent ≡ lent_size → m < w.server → false ≡ is_within c lent m n w
+  pub by-client : holdable c ≡ true → w.server ≤ m → leb w.client n ≡ is_within c lent_size m n w
   unfolding is_within
-  not-server h k less = rw (h, eq-eqb lent lent_size k, lt-leb w.server m less)
-
-  pub by-client : holdable c ≡ true → lent ≡ lent_size → w.server ≤ m → leb w.client n ≡ is_within c lent m n w
-  unfolding is_within
-  by-client h k room = rw (h, eq-eqb lent lent_size k, le-leb w.server m room)
+  by-client h room = rw (h, le-leb w.server m room)
 
 -- what they say where they can be
-pub within-facts : (c : Control) (lent : ℕ) (to_server to_client : List ℕ) (w : Written)
-    → is_within c lent (length to_server) (length to_client) w ≡ true → (lent ≡ lent_size) × Bounded c w to_server to_client
+pub within-facts : (c : Control) (to_server to_client : List ℕ) (w : Written)
+    → is_within c lent_size (length to_server) (length to_client) w ≡ true → Bounded c w to_server to_client
 unfolding is_within
-within-facts c lent to_server to_client w h =
-    let a = and_both (holdable c && eqb lent lent_size && leb w.server (length to_server)) (leb w.client (length to_client)) h in
-    let b = and_both (holdable c && eqb lent lent_size) (leb w.server (length to_server)) a.0 in
-    let d = and_both (holdable c) (eqb lent lent_size) b.0 in
-    let counts = holdable-counts c d.0 in (
-      eqb-true lent lent_size d.1,
-      record {
-        owed = counts.owed;
-        command = counts.command;
-        reply = counts.reply;
-        server = leb-true w.server (length to_server) b.1;
-        client = leb-true w.client (length to_client) a.1;
-      },
-    )
+within-facts c to_server to_client w h =
+    let a = and_both (holdable c && true && leb w.server (length to_server)) (leb w.client (length to_client)) h in
+    let b = and_both (holdable c && true) (leb w.server (length to_server)) a.0 in
+    let counts = holdable-counts c (and_both (holdable c) true b.0).0 in record {
+      owed = counts.owed;
+      command = counts.command;
+      reply = counts.reply;
+      server = leb-true w.server (length to_server) b.1;
+      client = leb-true w.client (length to_client) a.1;
+    }
 
 -- and they can be where they are bounded
 pub within-bounded : (c : Control) (lent : ℕ) (to_server to_client : List ℕ) (w : Written) → lent ≡ lent_size → Bounded c w to_server to_client
     → is_within c lent (length to_server) (length to_client) w ≡ true
 within-bounded c lent to_server to_client w all bounded =
     let counts = counts-holdable c bounded.owed bounded.command bounded.reply in
-    sym (by-client c lent (length to_server) (length to_client) w counts all bounded.server) ∙ le-leb w.client (length to_client) bounded.client
+    ap (λ (n : ℕ). is_within c n (length to_server) (length to_client) w) all
+    ∙ (sym (by-client c (length to_server) (length to_client) w counts bounded.server) ∙ le-leb w.client (length to_client) bounded.client)
 
 -- ---- the octet
 

@@ -2,30 +2,30 @@
 use mathlib.Core.Path.{◌≡◌, ap, subst, ◌∙◌}
 use mathlib.Core.Bool.{Bool}
 use mathlib.Core.List.{List}
-use Prim.Native.Nat.{ℕ, ◌-◌}
+use Prim.Native.Nat.{ℕ}
 use native.Mathlib.Omega.{arith}
-use lib.ListN.{length, length-drop}
+use lib.ListN.{length}
 use borrow.Rule.Slice.PartMut.{put_mid, mid_of}
 use Rattle.rules.specs.Answers.{Side, most_owed}
-use Rattle.records.specs.Layout.{lent_kinds, lent_command, lent_size}
+use Rattle.records.specs.Layout.{lent_kinds, lent_command, lent_size, lines_size}
 use Rattle.records.specs.declared.Control.{Control}
 use Rattle.rules.specs.declared.Fixed.{Fixed}
 use Rattle.steps.specs.declared.Written.{Written}
 use Rattle.steps.specs.Steps.{State}
 use Rattle.steps.specs.Takes.{Core, command_in, reply_in, state_in, state_from, core_from, core_in, kinds_lent, addresses_lent, state_lent, core_lent}
 use Rattle.steps.specs.Core.{Stepped}
-use Rattle.steps.proofs.Lent.{put-size, lines-lent, lines-put, lines-kinds, lines-addresses, kinds-back, kinds-addresses}
+use Rattle.steps.proofs.Lent.{put-size, lines-size, lines-lent, lines-put, lines-kinds, lines-addresses, kinds-back, kinds-addresses}
 
-module _ (lent lines : List ℕ) (all : length lent ≡ lent_size) (kept : length lines ≡ length (mid_of lent_command (length lent - lent_command) lent)) where
-  size : length lines ≡ length lent - lent_command
-  size = kept ∙ (ap length (lines-lent lent all) ∙ length-drop lent_command lent)
+module _ (lent lines : List ℕ) (all : length lent ≡ lent_size) (kept : length lines ≡ length (mid_of lent_command lines_size lent)) where
+  size : length lines ≡ lines_size
+  size = kept ∙ (ap length (lines-lent lent all) ∙ lines-size lent all)
 
   -- the lent octets when the lines are back
   abbrev pub then : List ℕ
-  then = put_mid lent_command (length lent - lent_command) lent lines
+  then = put_mid lent_command lines_size lent lines
 
   pub then-size : length then ≡ lent_size
-  then-size = put-size lent_command (length lent - lent_command) lent lines (omega (arith, all)) size ∙ all
+  then-size = put-size lent_command lines_size lent lines (omega (arith, all)) size ∙ all
 
   pub then-state : (c : Control) → state_lent c then ≡ state_in c lines (kinds_lent lent)
   then-state c =
@@ -37,7 +37,7 @@ module _ (lent lines : List ℕ) (all : length lent ≡ lent_size) (kept : lengt
   -- what is stepped over the lines as they are lent, by what was read of the rest, is stepped over all that is lent
   pub stepped-over : (f : Fixed) (d : Side) (x : ℕ) (c : Control) (sb cb : List ℕ) (w : Written) {fixed : Fixed} {before : List ℕ} {fit : Bool} {s s' : State}
       {sb' cb' : List ℕ} {w' : Written} → fixed ≡ f → before ≡ kinds_lent lent → s ≡ s'
-      → Stepped fixed d x (core_in c (mid_of lent_command (length lent - lent_command) lent) before sb cb w) fit (core_from s sb' cb' w')
+      → Stepped fixed d x (core_in c (mid_of lent_command lines_size lent) before sb cb w) fit (core_from s sb' cb' w')
       → Stepped f d x (core_lent c lent sb cb w) fit (core_from s' sb' cb' w')
   stepped-over f d x c sb cb w {fixed} {before} {fit} {s} {s'} {sb'} {cb'} {w'} known kinds state stepped =
       subst (λ (q : State). Stepped f d x (core_lent c lent sb cb w) fit (core_from q sb' cb' w')) state

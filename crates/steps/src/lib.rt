@@ -44,8 +44,7 @@ struct Fitted {
 }
 
 // What a setup fixed, as it is lent.
-fn fixed_in(supported: bool, strict: bool, lent: &[u8]) -> Fixed
-    requires { length lent.now ≡ lent_size }
+fn fixed_in(supported: bool, strict: bool, lent: &[u8; LENT_SIZE]) -> Fixed
     ensures { result ≡ fixed_lent supported strict lent.now }
 {
     let client = array_from(&lent[..LENT_MAPPED]);
@@ -60,25 +59,23 @@ fn fixed_in(supported: bool, strict: bool, lent: &[u8]) -> Fixed
     }
 }
 
-fn kinds_in(lent: &[u8]) -> Kinds
-    requires { length lent.now ≡ lent_size }
+fn kinds_in(lent: &[u8; LENT_SIZE]) -> Kinds
     ensures { result ≡ kinds_lent lent.now }
 {
     array_from(&lent[LENT_KINDS..LENT_COMMAND])
 }
 
-fn put_kinds(lent: &mut [u8], kinds: Kinds)
-    requires { length lent.old ≡ lent_size }
+fn put_kinds(lent: &mut [u8; LENT_SIZE], kinds: Kinds)
     ensures { (lent.new ≡ put_mid lent_kinds most_owed lent.old kinds) × (length kinds ≡ most_owed) }
 {
     put(&mut lent[LENT_KINDS..LENT_COMMAND], 0, &kinds);
 }
 
 // Counts and positions can be.
-fn within(control: Control, lent: usize, server: usize, client: usize, written: Written) -> bool
-    ensures { result ≡ is_within control lent server client written }
+fn within(control: Control, server: usize, client: usize, written: Written) -> bool
+    ensures { result ≡ is_within control lent_size server client written }
 {
-    if !holdable(control) || lent != LENT_SIZE {
+    if !holdable(control) {
         return false;
     }
     written.server <= server && written.client <= client
@@ -107,13 +104,10 @@ pub fn next_octet(
     ensures fixed { addresses_lent lent.new ≡ addresses_lent lent.old }
     ensures counts { Counted control → Counted result.control }
 {
-    if !within(
-        control,
-        lent.len(),
-        to_server.len(),
-        to_client.len(),
-        written,
-    ) {
+    let Some(lent) = lent.as_mut_array() else {
+        return answered(Answer::BadRecord, control, written);
+    };
+    if !within(control, to_server.len(), to_client.len(), written) {
         return answered(Answer::BadRecord, control, written);
     }
     if queue_full(from_client, control) {
@@ -152,13 +146,12 @@ fn lent_octet(
     from_client: bool,
     control: Control,
     x: u8,
-    lent: &mut [u8],
+    lent: &mut [u8; LENT_SIZE],
     to_server: &mut [u8],
     to_client: &mut [u8],
     written: Written,
 ) -> Option<Fitted>
     requires bounds { Bounded control written to_server.old to_client.old }
-    requires lengths { length lent.old ≡ lent_size }
     requires queue { is_queue_full (side_if from_client) (is_passing control.client.place) control.owed
         ≡ false }
     ensures stepped { let k = core_lent control lent.old to_server.old to_client.old written in

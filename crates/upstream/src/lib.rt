@@ -62,7 +62,7 @@ fn judged_effect(switches: Switches, command: Command) -> ClientEffect
     }
 }
 
-// A client effect that owes nothing.
+// A client effect that owes nothing. That a kind is owed, or none, is said by the function called, and by no argument.
 fn unowed(gives: Gives, place: Place, held: usize, switches: Switches) -> ClientEffect
     ensures { result ≡ client_effect_of gives (direction_at place held) switches None }
 {

@@ -28,7 +28,7 @@ any_run-requires c =
     let a = c.args in
     let p = c.plain_lines-plain in
     let lent = p.new.lent in
-    let all = p.auto.lent ∙ c.requires.within.1 in
+    let all = p.array_long in
     let before = core_lent a.control a.lent.now a.to_server.now a.to_client.now a.written in
     let after = core_lent p.result.control lent p.new.to_server p.new.to_client p.result.written in record { bounds = ran-bounded any (side_if a.from_client) a.octets.now before after a.i p.result.taken (p.ensures.ran any) c.requires.bounds; within = ((p.ensures.ran any).inside, subst (λ (m : List ℕ). length m ≡ lines_size) (sym (lines-lent lent all)) (lines-size lent all)) }
 
@@ -40,7 +40,7 @@ returns c =
     let kinds = c.array_from-kinds in
     let r = c.any_run in
     let lent = p.new.lent in
-    let all = p.auto.lent ∙ c.requires.within.1 in
+    let all = p.array_long in
     let sb = p.new.to_server in
     let cb = p.new.to_client in
     let lines = r.new.lines in

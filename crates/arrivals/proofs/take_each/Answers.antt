@@ -61,10 +61,10 @@ module _ (c : After-rebuilt-control-then-i-octets) where
       (between r.result.control) l.i reached l.invariant.0 (r.ensures.ran fixed))
 
   size : length c.next_run-run.new.lent ≡ lent_size
-  size = c.next_run-run.auto.lent ∙ c.loop-i.invariant.2
+  size = c.next_run-run.array_long
 
   addresses : addresses_lent c.next_run-run.new.lent ≡ addresses_lent c.args.lent.now
-  addresses = c.next_run-run.ensures.fixed ∙ c.loop-i.invariant.3
+  addresses = c.next_run-run.ensures.fixed ∙ c.loop-i.invariant.2
 
   abbrev behind : Control → Core
   behind k = let o = c.next_octet-o in core_lent k o.new.lent o.new.to_server o.new.to_client o.result.written
@@ -90,7 +90,7 @@ module _ (c : After-rebuilt-control-then-i-octets) where
       let x = get_or a.octets.now reached 0 in
       subst (λ (k : Control). Answered o.result.answer (behind k) (took_next within fixed side x before-octet) before-octet) (sym c.rebuilt-control-then-i-octets.ensures)
       (subst (λ (f : Fixed). Answered o.result.answer (behind o.result.control) (took_next within f side x before-octet) before-octet)
-      (fixed_same c.next_run-run.new.lent size a.lent.now c.requires.lengths addresses a.supported a.strict) o.ensures.stepped)
+      (fixed_same c.next_run-run.new.lent size a.lent.now c.told-lent addresses a.supported a.strict) o.ensures.stepped)
 
   counted : Counted c.rebuilt-control-then-i-octets.result
   counted =
@@ -116,20 +116,6 @@ module _ (c : After-rebuilt-control-then-i-octets) where
       going_next fixed side a.octets.now (state_lent a.start a.lent.now) a.to_server.now a.to_client.now
       before-octet reached went c.if-i-octets.true can _ _ next is counted
 
-  -- every buffer is as long as it was
-  abbrev Same : Type 0
-  Same =
-      let o = c.next_octet-o in
-      let a = c.args in
-      (length o.new.lent ≡ length a.lent.now)
-      × ((length o.new.to_server ≡ length a.to_server.now) × (length o.new.to_client ≡ length a.to_client.now))
-
-  same : Same
-  same =
-      let o = c.next_octet-o.auto in
-      let v = went in
-      (o.lent ∙ (size ∙ sym c.requires.lengths), (o.to_server ∙ v.server-size, o.to_client ∙ v.client-size))
-
 pub loop-i-init : goal.loop-i-init
 loop-i-init c =
     let a = c.args in
@@ -138,12 +124,11 @@ loop-i-init c =
           a.to_server.now a.to_client.now
           (record { owed = p.counts.owed; command = p.counts.command; reply = p.counts.reply; server = omega arith; client = omega arith }),
       omega arith,
-      p.lengths,
       refl,
     )
 
 pub next_run-run-requires : goal.next_run-run-requires
-next_run-run-requires c = let v = c.loop-i.invariant in record { bounds = v.0.bounded; within = (v.1, v.2) }
+next_run-run-requires c = let v = c.loop-i.invariant in record { bounds = v.0.bounded; within = v.1 }
 
 pub returns-in_default : goal.returns-in_default
 returns-in_default c = record { given = stopped (goal.at.returns-in_default c).After-rebuilt-control-then-i-octets (λ e. c.in_default.not-Done (done_only _ e)); fixed = kept (goal.at.returns-in_default c).After-rebuilt-control-then-i-octets; counts = counted (goal.at.returns-in_default c).After-rebuilt-control-then-i-octets }
@@ -157,7 +142,7 @@ loop-i-smaller-then-i-octets c =
 pub loop-i-preserved-then-i-octets : goal.loop-i-preserved-then-i-octets
 loop-i-preserved-then-i-octets c =
     let more = c.if-i-octets.true in
-    (goes (goal.at.loop-i-preserved-then-i-octets c).After-rebuilt-control-then-i-octets (ap answer_number c.in-Done.is), omega arith, (same (goal.at.loop-i-preserved-then-i-octets c).After-rebuilt-control-then-i-octets).0 ∙ c.requires.lengths, kept (goal.at.loop-i-preserved-then-i-octets c).After-rebuilt-control-then-i-octets)
+    (goes (goal.at.loop-i-preserved-then-i-octets c).After-rebuilt-control-then-i-octets (ap answer_number c.in-Done.is), omega arith, kept (goal.at.loop-i-preserved-then-i-octets c).After-rebuilt-control-then-i-octets)
 
 pub loop-i-smaller : goal.loop-i-smaller
 loop-i-smaller c =
@@ -178,8 +163,7 @@ loop-i-preserved c =
           (going-run fixed side a.octets.now (state_lent a.start a.lent.now) a.to_server.now a.to_client.now _
           (between r.result.control) l.i r.result.taken l.invariant.0 (r.ensures.ran fixed)),
       (r.ensures.ran fixed).inside,
-      r.auto.lent ∙ l.invariant.2,
-      r.ensures.fixed ∙ l.invariant.3,
+      r.ensures.fixed ∙ l.invariant.2,
     )
 
 pub returns : goal.returns
@@ -188,6 +172,6 @@ returns c =
     let l = c.loop-i in record {
       given = stopped-done (fixed_lent a.supported a.strict a.lent.now) (side_if a.from_client) a.octets.now (state_lent a.start a.lent.now)
           a.to_server.now a.to_client.now _ l.i l.invariant.0 c.loop-i-test.false;
-      fixed = l.invariant.3;
+      fixed = l.invariant.2;
       counts = held-counts l.invariant.0.bounded;
     }

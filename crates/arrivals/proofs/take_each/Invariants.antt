@@ -2,7 +2,6 @@
 use mathlib.Core.Path.{◌≡◌}
 use Prim.Native.Nat.{◌-◌, ◌≤◌}
 use lib.ListN.{length}
-use Rattle.records.specs.Layout.{lent_size}
 use Rattle.records.specs.Sound.{side_if}
 use Rattle.steps.specs.Takes.{addresses_lent, fixed_lent, state_lent, core_lent}
 use Rattle.arrivals.proofs.Going.{Going}
@@ -12,7 +11,7 @@ abbrev pub invariant-loop-i : goal.invariant-loop-i
 invariant-loop-i l =
     Going (fixed_lent l.supported l.strict l.initial.lent) (side_if l.from_client) l.octets (state_lent l.initial.control l.initial.lent) l.initial.to_server l.initial.to_client
     (core_lent l.control l.lent l.to_server l.to_client l.written) l.i
-    × (l.i ≤ length l.octets) × (length l.lent ≡ lent_size) × (addresses_lent l.lent ≡ addresses_lent l.initial.lent)
+    × (l.i ≤ length l.octets) × (addresses_lent l.lent ≡ addresses_lent l.initial.lent)
 
 abbrev pub decreases-loop-i : goal.decreases-loop-i
 decreases-loop-i l =

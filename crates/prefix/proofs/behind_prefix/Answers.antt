@@ -1,9 +1,11 @@
 -- `prefix::behind_prefix` meets its contract, by the placing.
 use mathlib.Core.Path.{◌≡◌, sym, ◌∙◌}
+use Prim.Native.Nat.{◌≤◌}
 use native.Mathlib.Omega.{arith}
 use lib.ListN.{length}
 use lib.Seq.{length-take-le}
 use borrow.Author.Rules.{rules}
+use Rattle.prefix.specs.Prefix.{ipv4_at}
 use Rattle.prefix.proofs.Placed.{placed-put}
 use Rattle.prefix.proofs.behind_prefix.Goals as goal
 
@@ -18,8 +20,8 @@ returns c =
     let a = c.args in
     let size : length a.prefix ≡ 16 = search rules in
     let four : length a.ipv4 ≡ 4 = search rules in
-    let most = c.requires in
     let at = c.ipv4_at-at.ensures.result in
+    let most : ipv4_at a.length ≤ 11 = rw at at c.ipv4_at-at.ensures.most in
     let given = c.without_reserved-given.ensures in
     let put = c.put.ensures.1 in
     let put2 = c.put-2.ensures.1 in

@@ -11,22 +11,22 @@ use Rattle.queue.proofs.due.Goals as goal
 use Rattle.queue.proofs.due.Goals.{In-Answer}
 
 -- an own answer is one of the kinds that there is room for
-one : (c : In-Answer) → c.loop-answer.until < most_owed
+one : (c : In-Answer) → c.loop-answer.leaving < most_owed
 one c =
     let a = c.args in
     let long : length a.kinds ≡ most_owed = search rules in
-    let within = stands (queue_of a.kinds a.owed) c.loop-answer.until c.next_at.ensures c.in-Answer.is in
+    let within = stands (queue_of a.kinds a.owed) c.loop-answer.leaving c.next_at.ensures c.in-Answer.is in
     omega (arith, queue-most a.kinds a.owed)
 
-pub overflow_add-length : goal.overflow_add-length
-overflow_add-length c =
+pub overflow_add-answers : goal.overflow_add-answers
+overflow_add-answers c =
     let a = c.args in
     let l = c.loop-answer in
-    let t = goes_on (queue_of a.kinds a.owed) l.until _ c.next_at.ensures c.in-Answer.is in
+    let t = goes_on (queue_of a.kinds a.owed) l.leaving _ c.next_at.ensures c.in-Answer.is in
     omega arith
 
-pub overflow_add-until : goal.overflow_add-until
-overflow_add-until c = omega (arith, one (goal.at.overflow_add-until c).In-Answer)
+pub overflow_add-leaving : goal.overflow_add-leaving
+overflow_add-leaving c = omega (arith, one (goal.at.overflow_add-leaving c).In-Answer)
 
 pub loop-answer-smaller : goal.loop-answer-smaller
 loop-answer-smaller c = omega (arith, one (goal.at.loop-answer-smaller c).In-Answer)
@@ -36,7 +36,7 @@ loop-answer-preserved c =
     let a = c.args in
     let l = c.loop-answer in
     let before = one (goal.at.loop-answer-preserved c).In-Answer in
-    let t = goes_on (queue_of a.kinds a.owed) l.until _ c.next_at.ensures c.in-Answer.is in
+    let t = goes_on (queue_of a.kinds a.owed) l.leaving _ c.next_at.ensures c.in-Answer.is in
     (omega arith, omega arith, omega arith)
 
 pub returns : goal.returns

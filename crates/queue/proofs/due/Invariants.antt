@@ -1,4 +1,4 @@
--- `queue::due` meets its contract. The invariant: what is counted, and the answers from number `until` on, make the whole.
+-- `queue::due` meets its contract. The invariant: what is counted, and the answers from number `leaving` on, make the whole.
 use mathlib.Core.Path.{◌≡◌}
 use Prim.Native.Nat.{◌+◌, ◌*◌, ◌≤◌, ◌-◌}
 use lib.ListN.{length, drop}
@@ -9,9 +9,9 @@ use Rattle.queue.proofs.due.Given as goal
 
 abbrev pub invariant-loop-answer : goal.invariant-loop-answer
 invariant-loop-answer l =
-    (l.from + answers_at_head (drop l.from (queue_of l.kinds l.owed)) ≡ l.until + answers_at_head (drop l.until (queue_of l.kinds l.owed)))
-    × (length (head_answers (drop l.from (queue_of l.kinds l.owed))) ≡ l.length + length (head_answers (drop l.until (queue_of l.kinds l.owed))))
-    × (l.length + longest_answer * (most_owed - l.until) ≤ most_answers)
+    (l.from + answers_at_head (drop l.from (queue_of l.kinds l.owed)) ≡ l.leaving + answers_at_head (drop l.leaving (queue_of l.kinds l.owed)))
+    × (length (head_answers (drop l.from (queue_of l.kinds l.owed))) ≡ l.answers + length (head_answers (drop l.leaving (queue_of l.kinds l.owed))))
+    × (l.answers + longest_answer * (most_owed - l.leaving) ≤ most_answers)
 
 abbrev pub decreases-loop-answer : goal.decreases-loop-answer
-decreases-loop-answer l = most_owed - l.until
+decreases-loop-answer l = most_owed - l.leaving

@@ -24,4 +24,4 @@ returns-then-blocked c =
 pub returns : goal.returns
 returns c =
     let a = c.args in
-    let d = c.due-d.ensures in record { result = plan-goes (queue_of a.kinds a.owed) a.from c.if-blocked.false d.result.0 d.result.1 d.after; most = d.most }
+    let d = c.due.ensures in record { result = plan-goes (queue_of a.kinds a.owed) a.from c.if-blocked.false d.result.0 d.result.1 d.after; most = d.most }

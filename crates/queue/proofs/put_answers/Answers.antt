@@ -23,13 +23,13 @@ overflow_sub-out c = omega arith
 pub returns-then-out-at-2 : goal.returns-then-out-at-2
 returns-then-out-at-2 c =
     let a = c.args in
-    let size = c.due-answers.ensures.result.1 in
+    let size = c.due-own.ensures.result.1 in
     no_room a.out.now a.at (head_answers (drop a.from (queue_of a.kinds a.owed))) (omega arith)
 
 pub loop-answer-init : goal.loop-answer-init
 loop-answer-init c =
     let a = c.args in
-    at-start a.out.now a.at (head_answers (drop a.from (queue_of a.kinds a.owed))) ((let size = c.due-answers.ensures.result.1 in
+    at-start a.out.now a.at (head_answers (drop a.from (queue_of a.kinds a.owed))) ((let size = c.due-own.ensures.result.1 in
     let fits = c.if-out-at-2.false in
     let within = c.if-out-at.false in
     omega arith))
@@ -65,7 +65,7 @@ returns c =
     let l = c.loop-answer in
     let q = queue_of a.kinds a.owed in
     let s = stops (drop l.i q) c.next_at.ensures c.in_default.not-Answer in
-    at-end a.out.now a.at (head_answers (drop a.from q)) l.out l.place (head_answers (drop l.i q)) ((let size = c.due-answers.ensures.result.1 in
+    at-end a.out.now a.at (head_answers (drop a.from q)) l.out l.place (head_answers (drop l.i q)) ((let size = c.due-own.ensures.result.1 in
     let fits = c.if-out-at-2.false in
     let within = c.if-out-at.false in
     omega arith)) l.invariant s.text

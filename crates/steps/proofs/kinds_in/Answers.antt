@@ -7,4 +7,4 @@ use Rattle.steps.proofs.kinds_in.Goals as goal
 
 pub returns : goal.returns
 returns c =
-    c.array_from.ensures ∙ filled most_owed _ (kinds-size c.args.lent.now c.requires)
+    c.array_from.ensures ∙ filled most_owed _ (kinds-size c.args.lent.now c.told-lent)

@@ -14,5 +14,5 @@ pub returns : goal.returns
 returns c =
     let lent = c.args.lent.now in
     let sixteen : length c.args.kinds ≡ most_owed = search rules in
-    let whole = fills (kinds_lent lent) c.args.kinds (sixteen ∙ sym (kinds-size lent c.requires)) in
+    let whole = fills (kinds_lent lent) c.args.kinds (sixteen ∙ sym (kinds-size lent c.told-lent)) in
     (ap (put_mid lent_kinds most_owed lent) (c.put.ensures.1 ∙ whole), sixteen)

@@ -25,21 +25,21 @@ held-here : (c : After-hold_run-j)
 held-here c =
     let a = c.args in
     let r = c.hold_run-j.ensures in
-    line-held a.octets.now a.held a.lent.now c.requires.within.1 r.within.0 r.within.1 r.within.2 r.buffer a.owed a.to_server.now a.at
-    r.run c.requires.counts.1 c.requires.counts.2 c.requires.within.2
+    line-held a.octets.now a.held a.lent.now c.told-lent r.within.0 r.within.1 r.within.2 r.buffer a.owed a.to_server.now a.at
+    r.run c.requires.counts.1 c.requires.counts.2 c.requires.within.1
 
 pub text-line-requires : goal.text-line-requires
 text-line-requires c =
     let r = c.hold_run-j.ensures in
     let a = c.args in
-    all-arrived a.octets.now a.held a.lent.now c.requires.within.1 r.within.0 r.within.1 r.within.2 r.buffer
+    all-arrived a.octets.now a.held a.lent.now c.told-lent r.within.0 r.within.1 r.within.2 r.buffer
 
 -- a line of which none was held before is ordinary octets of the arrival
 pub may_end-requires : goal.may_end-requires
 may_end-requires c e =
     let a = c.args in
     let r = c.hold_run-j.ensures in
-    let arrived = all-arrived a.octets.now a.held a.lent.now c.requires.within.1 r.within.0 r.within.1 r.within.2 r.buffer e in
+    let arrived = all-arrived a.octets.now a.held a.lent.now c.told-lent r.within.0 r.within.1 r.within.2 r.buffer e in
     subst (λ (l : List ℕ). every (is_not iac) l ≡ true) (arrived ∙ sym c.text-line.ensures) (no-iacs _ r.run)
 
 pub returns-then-is_plain : goal.returns-then-is_plain
@@ -49,13 +49,13 @@ returns-then-is_plain c =
     let r = c.hold_run-j.ensures in
     let forward = r.within.0 in
     let held = held-here (goal.at.returns-then-is_plain c).After-hold_run-j in
-    let all = lent-size a.octets.now a.held a.lent.now pre.within.1 forward r.within.1 r.within.2 r.buffer in
+    let all = lent-size a.octets.now a.held a.lent.now c.told-lent forward r.within.1 r.within.2 r.buffer in
     let may = c.may_end.ensures c.if-may_end.true in
     let plain = sym c.is_plain.ensures ∙ c.if-is_plain.true in
     let text = c.text-line.ensures in
     let put = put-itself _ may.3 a.to_server.now a.at c.put_ended-next.ensures in
     let ended = line-ended a.octets.now (a.held + (c.hold_run-j.result - a.i)) a.owed (put_mid lent_command most_held a.lent.now c.hold_run-j.new.line) all
-    a.to_server.now a.at may.0 may.1 held.held pre.counts.1 held.still pre.within.2 (room-itself _ may.3 may.2) text plain put.0
+    a.to_server.now a.at may.0 may.1 held.held pre.counts.1 held.still pre.within.1 (room-itself _ may.3 may.2) text plain put.0
     put.1 in (said-then held ended, omega arith)
 
 pub returns-else-is_plain : goal.returns-else-is_plain

@@ -8,15 +8,14 @@ loop-i-init c =
     let a = c.args in
     let p = c.requires in (
       said-none a.octets.now a.from a.start a.before a.lent.now a.to_server.now a.first p.within.0 p.counts.0 p.counts.1
-          p.within.2 p.counts.2,
+          p.within.1 p.counts.2,
       p.within.0,
-      p.within.1,
       refl,
     )
 
 pub client_line-requires : goal.client_line-requires
 client_line-requires c =
-    let v = c.loop-i.invariant in record { counts = (v.0.held, c.if-owed-lt-OWED.true, v.0.still); within = (v.1, v.2, v.0.written) }
+    let v = c.loop-i.invariant in record { counts = (v.0.held, c.if-owed-lt-OWED.true, v.0.still); within = (v.1, v.0.written) }
 
 pub returns-in-Break : goal.returns-in-Break
 returns-in-Break c =
@@ -33,12 +32,10 @@ pub loop-i-preserved : goal.loop-i-preserved
 loop-i-preserved c =
     let v = c.loop-i.invariant in
     let r = c.client_line in
-    let lent = r.auto.lent in
     let out = r.auto.to_server in
-    let all = v.2 in
-    let same = v.3 in
+    let same = v.2 in
     let said = said-then v.0 c.in-Continue.ensures.0 in
-    (said, said-inside said, omega arith, omega arith)
+    (said, said-inside said, omega arith)
 
 pub returns-else-owed-lt-OWED : goal.returns-else-owed-lt-OWED
 returns-else-owed-lt-OWED c = c.loop-i.invariant.0

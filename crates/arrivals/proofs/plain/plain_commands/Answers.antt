@@ -18,7 +18,7 @@ returns-then-not-may_run c =
     let p = c.requires in record {
       ran = λ f to_client h.
           ran-none f client a.octets.now (core_lent a.control a.lent.now a.to_server.now to_client a.written) a.i
-          p.within.0 p.within.2 h;
+          p.within.0 p.within.1 h;
       fixed = refl;
     }
 

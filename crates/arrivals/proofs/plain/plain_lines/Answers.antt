@@ -14,14 +14,14 @@ returns-then-not-is_still c =
     let a = c.args in
     let bounded = c.requires.bounds in record {
       ran = λ f. ran-none f (side_if a.from_client) a.octets.now (core_lent a.control a.lent.now a.to_server.now a.to_client.now a.written)
-          a.i c.requires.within.0 bounded.server bounded.client;
+          a.i c.requires.within bounded.server bounded.client;
       fixed = refl;
     }
 
 pub plain_commands-requires : goal.plain_commands-requires
 plain_commands-requires c =
     let bounded = c.requires.bounds in
-    let still = sym c.is_still.ensures ∙ not-false _ (ap not c.if-not-is_still.false) in record { counts = (record { owed = bounded.owed; command = bounded.command; reply = bounded.reply }, still); within = (c.requires.within.0, c.requires.within.1, bounded.server) }
+    let still = sym c.is_still.ensures ∙ not-false _ (ap not c.if-not-is_still.false) in record { counts = (record { owed = bounded.owed; command = bounded.command; reply = bounded.reply }, still); within = (c.requires.within, bounded.server) }
 
 pub returns-then-from_client : goal.returns-then-from_client
 returns-then-from_client c =
@@ -37,7 +37,7 @@ returns-then-from_client c =
 pub plain_replies-requires : goal.plain_replies-requires
 plain_replies-requires c =
     let bounded = c.requires.bounds in
-    let still = sym c.is_still.ensures ∙ not-false _ (ap not c.if-not-is_still.false) in record { counts = (record { owed = bounded.owed; command = bounded.command; reply = bounded.reply }, still); within = (c.requires.within.0, c.requires.within.1, bounded.client) }
+    let still = sym c.is_still.ensures ∙ not-false _ (ap not c.if-not-is_still.false) in record { counts = (record { owed = bounded.owed; command = bounded.command; reply = bounded.reply }, still); within = (c.requires.within, bounded.client) }
 
 pub returns : goal.returns
 returns c =

@@ -16,7 +16,7 @@ use Rattle.arrivals.proofs.plain.plain_replies.Goals as goal
 pub returns-then-not-may_run : goal.returns-then-not-may_run
 returns-then-not-may_run c =
     let a = c.args in
-    let pre = c.requires in record { ran = λ f to_server h. ran-none f server a.octets.now (core_lent a.control a.lent.now to_server a.to_client.now a.written) a.i pre.within.0 h pre.within.2; fixed = refl }
+    let pre = c.requires in record { ran = λ f to_server h. ran-none f server a.octets.now (core_lent a.control a.lent.now to_server a.to_client.now a.written) a.i pre.within.0 h pre.within.1; fixed = refl }
 
 pub returns : goal.returns
 returns c =

@@ -59,17 +59,17 @@ module _ (c : After-hold_run-j) where
   first =
       let pre = c.requires in
       let run = c.hold_run-j.ensures in
-      reply-held octets i j held lent part pre.within.1 run.within.0 run.within.1 run.within.2 run.buffer owed _ _ _ pre.counts.1 pre.within.2 pre.counts.2 run.run
+      reply-held octets i j held lent part c.told-lent run.within.0 run.within.1 run.within.2 run.buffer owed _ _ _ pre.counts.1 pre.within.1 pre.counts.2 run.run
 
   read : held ≡ 0 → take (j - i) (drop i octets) ≡ take (lent_reply + (held + (j - i)) - lent_reply) (drop lent_reply after)
   read =
       let run = c.hold_run-j.ensures in
-      held-text octets i j held lent part c.requires.within.1 run.within.0 run.within.1 run.within.2 run.buffer
+      held-text octets i j held lent part c.told-lent run.within.0 run.within.1 run.within.2 run.buffer
 
   all : length after ≡ lent_size
   all =
       let run = c.hold_run-j.ensures in
-      held-size octets i j held lent part c.requires.within.1 run.within.0 run.within.1 run.within.2 run.buffer
+      held-size octets i j held lent part c.told-lent run.within.0 run.within.1 run.within.2 run.buffer
 
 -- no more kinds are removed than are owed
 few : (c : After-removed-removes) → c.removed-removes.result ≤ c.args.owed

@@ -7,17 +7,14 @@ pub loop-i-init : goal.loop-i-init
 loop-i-init c =
     let a = c.args in
     let pre = c.requires in (
-      answered-none a.octets.now a.from a.start a.before a.code a.lent.now a.to_client.now a.first pre.within.0 pre.counts.0 pre.counts.1 pre.within.2 pre.counts.2,
-      refl,
+      answered-none a.octets.now a.from a.start a.before a.code a.lent.now a.to_client.now a.first pre.within.0 pre.counts.0 pre.counts.1 pre.within.1 pre.counts.2,
       refl,
     )
 
 pub server_line-requires : goal.server_line-requires
 server_line-requires c =
     let inv = c.loop-i.invariant in
-    let more = c.loop-i-test.true in
-    let all = c.requires.within.1 in
-    let same = inv.1 in record { counts = (inv.0.held, inv.0.owed, inv.0.still); within = (omega arith, omega arith, inv.0.written) }
+    let more = c.loop-i-test.true in record { counts = (inv.0.held, inv.0.owed, inv.0.still); within = (omega arith, inv.0.written) }
 
 pub returns-in-Break : goal.returns-in-Break
 returns-in-Break c =
@@ -38,8 +35,7 @@ loop-i-preserved c =
     let inv = c.loop-i.invariant in
     let ran = answered-then a.octets.now a.from a.start a.before a.code a.lent.now a.to_client.now a.first _ _ _ _ _ _ inv.0 c.in-Continue.ensures.0 in (
       ran,
-      line.auto.lent ∙ inv.1,
-      line.auto.to_client ∙ inv.2,
+      line.auto.to_client ∙ inv.1,
     )
 
 pub returns : goal.returns

@@ -1,5 +1,5 @@
 -- `image::ending::put_end` meets its contract: four fields are stored.
-use Rattle.std.proofs.Common.{◌∙◌, arith, length-set}
+use Rattle.std.proofs.Common.{refl, ◌∙◌, arith, length-set}
 use Rattle.records.specs.Sound.{side_if}
 use Rattle.image.proofs.Again.{image-long}
 use Rattle.image.proofs.Changing.{fields-low, end-stored}
@@ -11,14 +11,14 @@ number_at-before-requires c =
     let low = fields-low (side_if c.args.from_client) in
     omega arith
 
-pub bounds-image-place : goal.bounds-image-place
-bounds-image-place c =
+pub bounds-image-at : goal.bounds-image-at
+bounds-image-at c =
     let long = image-long c.args.image.now c.requires.0 in
     let low = fields-low (side_if c.args.from_client) in
     omega arith
 
-pub bounds-image-mark : goal.bounds-image-mark
-bounds-image-mark c =
+pub bounds-image-at-2 : goal.bounds-image-at-2
+bounds-image-at-2 c =
     let long = image-long c.args.image.now c.requires.0 in
     let low = fields-low (side_if c.args.from_client) in
     simp length-set (omega arith)
@@ -32,5 +32,5 @@ shape_of-image c =
 pub returns : goal.returns
 returns c =
     end-stored c.args.image.now c.requires.0 (λ i. omega (arith, c.slice_known-1.given i)) (side_if c.args.from_client) c.args.n
-    c.place_at-place.ensures c.telnet_at-mark.ensures c.held_at-count.ensures c.written_at-sum.ensures
-    c.number_at-before.ensures c.wrapping_add_u32.ensures.value c.put_number.ensures.1 c.put_number-2.ensures.1
+    c.fields_at-at.ensures.place c.fields_at-at.ensures.telnet c.fields_at-at.ensures.held c.fields_at-at.ensures.written
+    c.number_at-before.ensures refl (rw (c.place_number.ensures, c.telnet_number.ensures) at c.put_number.ensures.1) c.put_number-2.ensures.1
