@@ -147,8 +147,7 @@ fn direction_run(
 }
 
 // A run of a direction's octets from i on, if one begins there: number 1 is not given for it, no Telnet command is
-// unfinished, and nothing is left to settle. The two lines are lent as a slice: of an array that is lent on, no length
-// is known behind a call.
+// unfinished, and nothing is left to settle. The two lines are a slice, as `steps` has them.
 pub fn any_run(
     from_client: bool,
     control: Control,

@@ -327,7 +327,7 @@ fn control_in(image: &[u8]) -> Control
     }
 }
 
-// These lead back, and are functions for the same reason.
+// The place and the Telnet state of a number: no `From`, as for `place_number`.
 fn place_of(n: u8) -> Place
     ensures { result ≡ place_of n }
 {

@@ -92,7 +92,7 @@ impl From<PrefixAnswer> for u8 {
     }
 }
 
-// The length of a prefix: one of the six, and so one behind which an IPv4 address has room.
+// The length of a prefix, one of the six as `new` makes it: at most 96, so that an IPv4 address has room behind it.
 #[derive(Clone, Copy)]
 struct PrefixLength {
     bits: u64,

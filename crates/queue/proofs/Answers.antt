@@ -8,7 +8,7 @@ use lib.Seq.{drop-cons, drop-drop, get_or-take}
 use Rattle.rules.specs.Replies.{head_answers, answer_line, auth_at_head}
 use Rattle.rules.specs.declared.Kind.{Kind}
 use Rattle.rules.specs.declared.OwnAnswer.{OwnAnswer}
-use Rattle.rules.specs.Answers.{longest_answer}
+use Rattle.rules.specs.Answers.{longest_answer, most_owed}
 use Rattle.own.proofs.Lengths.{answer-most}
 use Rattle.queue.specs.Kinds.{kind_of, queue_of, answers_at_head}
 use Rattle.queue.specs.declared.Next.{Next}
@@ -120,3 +120,8 @@ stands [] zero e f = cc
 stands [] (suc i) e f = cc
 stands (k ∷ ks) zero e f = omega arith
 stands (k ∷ ks) (suc i) e f = let h = stands ks i e f in omega arith
+
+-- so it is one of the kinds that there is room for
+pub has_room : (kinds : List ℕ) (owed i : ℕ) {n : Next} {a : OwnAnswer} → length kinds ≡ most_owed → n ≡ next_first (drop i (queue_of kinds owed)) → n ≡ Next.Answer a
+    → i < most_owed
+has_room kinds owed i long e f = omega (arith, stands (queue_of kinds owed) i e f, queue-most kinds owed)

@@ -186,7 +186,7 @@ pub fn unfinished_of(control: Control, from_client: bool) -> Telnet
     layer.telnet
 }
 
-// The control with these Telnet layers; field by field, and not by `..control`, as in `with_client`.
+// The control with these Telnet layers; field by field, as `with_client` is, and not by `..control`.
 fn with_layers(control: Control, up: Layer, down: Layer) -> Control
     ensures { result ≡ with_layers control up down }
 {

@@ -6,17 +6,14 @@ use borrow.Author.Rules.{rules}
 use lib.ListN.{length}
 use Rattle.rules.specs.Answers.{most_owed}
 use Rattle.queue.specs.Kinds.{queue_of}
-use Rattle.queue.proofs.Answers.{stops, auth-next, goes_on, stands, queue-most}
+use Rattle.queue.proofs.Answers.{stops, auth-next, goes_on, has_room}
 use Rattle.queue.proofs.due.Goals as goal
 use Rattle.queue.proofs.due.Goals.{In-Answer}
 
 -- an own answer is one of the kinds that there is room for
 one : (c : In-Answer) → c.loop-answer.leaving < most_owed
 one c =
-    let a = c.args in
-    let long : length a.kinds ≡ most_owed = search rules in
-    let within = stands (queue_of a.kinds a.owed) c.loop-answer.leaving c.next_at.ensures c.in-Answer.is in
-    omega (arith, queue-most a.kinds a.owed)
+    has_room c.args.kinds c.args.owed _ (search rules) c.next_at.ensures c.in-Answer.is
 
 pub overflow_add-answers : goal.overflow_add-answers
 overflow_add-answers c =

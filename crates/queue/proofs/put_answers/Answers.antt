@@ -7,7 +7,7 @@ use Rattle.rules.specs.Replies.{head_answers}
 use Rattle.rules.specs.Answers.{most_owed}
 use Rattle.output.proofs.Placing.{no_room}
 use Rattle.queue.specs.Kinds.{queue_of}
-use Rattle.queue.proofs.Answers.{stops, goes_on, stands, queue-most}
+use Rattle.queue.proofs.Answers.{stops, goes_on, has_room}
 use Rattle.queue.proofs.Placing.{at-start, next-part, at-end}
 use Rattle.queue.proofs.put_answers.Goals as goal
 use Rattle.queue.proofs.put_answers.Goals.{In-Answer}
@@ -37,10 +37,7 @@ loop-answer-init c =
 -- an own answer is one of the kinds that there is room for
 one : (c : In-Answer) → c.loop-answer.i < most_owed
 one c =
-    let a = c.args in
-    let long : length a.kinds ≡ most_owed = search rules in
-    let within = stands (queue_of a.kinds a.owed) c.loop-answer.i c.next_at.ensures c.in-Answer.is in
-    omega (arith, queue-most a.kinds a.owed)
+    has_room c.args.kinds c.args.owed _ (search rules) c.next_at.ensures c.in-Answer.is
 
 pub overflow_add-i : goal.overflow_add-i
 overflow_add-i c = omega (arith, one (goal.at.overflow_add-i c).In-Answer)
