@@ -1,7 +1,7 @@
 -- Counts in 32 bits that wrap, and their difference.
 use Rattle.std.specs.Prelude.{None, Some}
-use Rattle.std.proofs.Common.{◌≡◌, ℕ, zero, suc, ◌+◌, ◌-◌, ◌%◌, ◌^◌, ◌<◌, ◌≤◌, refl, ap, ◌∙◌, mod-eq_of_lt, arith}
-use native.Mathlib.Nat.{add-mod-mod}
+use Rattle.std.proofs.Common.{◌≡◌, ℕ, zero, suc, ◌+◌, ◌-◌, ◌%◌, ◌^◌, ◌<◌, ◌≤◌, Bool, true, false, ltb, sym, refl, ap, ◌∙◌, mod-eq_of_lt, arith, ltb-false, ltb-true}
+use native.Mathlib.Nat.{add-mod-mod, add-mod_right}
 use Rattle.rules.specs.Answers.{Side, client, server, wrapped, offset_of}
 use Rattle.records.specs.declared.Counts.{Counts}
 use Rattle.records.specs.declared.Session.{Session}
@@ -19,10 +19,33 @@ pub counts-by : (up down : Counts) (d : Side) (n to_server to_client : ℕ) {her
 counts-by up down d n to_server to_client p q u v =
     (u ∙ ap (λ (m : ℕ). counted up m to_server) p, v ∙ ap (λ (m : ℕ). counted down m to_client) q)
 
--- numbers of 32 bits need no wrapping before they are subtracted
-pub difference : (written taken : ℕ) → written < 2 ^ 32 → taken < 2 ^ 32 → (written + (2 ^ 32 - taken)) % 2 ^ 32 ≡ offset_of written taken
+turns : (m r t w : ℕ) → r < m → t < m → w ≡ (r + t) % m → (b : Bool) → ltb (r + t) m ≡ b → r ≡ (w + (m - t)) % m
+turns m r t w hr ht e true k =
+    let small = ltb-true (r + t) m k in
+    let w-is : w ≡ r + t = e ∙ mod-eq_of_lt small in
+    let sum : w + (m - t) ≡ r + m = omega arith in
+    rw (sum, add-mod_right r m) (sym (mod-eq_of_lt hr))
+turns m r t w hr ht e false k =
+    let big = ltb-false (r + t) m k in
+    let over : r + t ≡ (r + t - m) + m = omega arith in
+    let rest : r + t - m < m = omega arith in
+    let w-is : w ≡ r + t - m = e ∙ ap (λ (x : ℕ). x % m) over ∙ add-mod_right (r + t - m) m ∙ mod-eq_of_lt rest in
+    let sum : w + (m - t) ≡ r = omega arith in
+    rw sum (sym (mod-eq_of_lt hr))
+
+-- the number that, with taken added, wraps back to written
+pub difference : (r written taken : ℕ) → r < 2 ^ 32 → (r + taken) % 2 ^ 32 ≡ written → r ≡ offset_of written taken
 unfolding wrapped offset_of
-difference written taken w t = rw (mod-eq_of_lt w, mod-eq_of_lt t)
+difference r written taken h e =
+    let t = taken % 2 ^ 32 in
+    let same : written ≡ (r + t) % 2 ^ 32 = sym e ∙ sym (add-mod-mod r taken (2 ^ 32)) in
+    let small : written % 2 ^ 32 ≡ written = omega arith in
+    rw small (turns (2 ^ 32) r t written h (omega arith) same (ltb (r + t) (2 ^ 32)) refl)
+
+-- numbers of 32 bits need no wrapping before they are subtracted
+pub unwrapped : (written taken : ℕ) → written < 2 ^ 32 → taken < 2 ^ 32 → (written + (2 ^ 32 - taken)) % 2 ^ 32 ≡ offset_of written taken
+unfolding wrapped offset_of
+unwrapped written taken w t = rw (mod-eq_of_lt w, mod-eq_of_lt t)
 
 pub other-direction : (s : Session) (d : ℕ) → 2 ≤ d → None ≡ offset s d
 unfolding offset
@@ -39,7 +62,7 @@ zero_of s (suc (suc d)) h n = absurd (omega arith)
 -- the difference of the counts that the direction has
 module _ (s : Session) (d : ℕ) {k : Counts} (written : k.written < 2 ^ 32) (taken : k.taken < 2 ^ 32) where
   of : (m : Counts) → k ≡ m → (k.written + (2 ^ 32 - k.taken)) % 2 ^ 32 ≡ offset_of m.written m.taken
-  of m p = rw (← p) (difference k.written k.taken written taken)
+  of m p = rw (← p) (unwrapped k.written k.taken written taken)
 
   pub server-offset : d ≡ 1 → k ≡ s.down → Some ((k.written + (2 ^ 32 - k.taken)) % 2 ^ 32) ≡ offset s d
   unfolding offset
