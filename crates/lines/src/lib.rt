@@ -17,7 +17,7 @@ pub fn argument(content: &[u8]) -> &[u8]
     ensures { result.now ≡ argument_of content.now }
 {
     let word_end = octets::find(content, 0, b' ');
-    let start = octets::run_end(content, word_end, |x| x == b' ');
+    let start = octets::run_of(content, word_end, b' ');
     without_spaces(&content[start..])
 }
 

@@ -2,13 +2,13 @@
 #![tactic(auto)]
 
 ghost use Rattle.std.specs.Prelude.{◌≡◌, true, ◌+◌, drop, ℕ, Bool};
-ghost use Rattle.rules.specs.Octets.{run, is_not, every, digit, alike as alike_of};
+ghost use Rattle.rules.specs.Octets.{run, is, is_not, every, digit, not_digit, alike as alike_of};
 ghost use Rattle.rules.specs.Octets.{value as value_of, number as number_of};
 ghost use Rattle.octets.specs.Numbers.{between};
 ghost use Rattle.octets.specs.Tests.{Tests};
 
 // Where the octets from `from` on that pass a test end.
-pub fn run_end<F: Fn(u8) -> bool>(s: &[u8], from: usize, passes: F) -> usize
+fn run_end<F: Fn(u8) -> bool>(s: &[u8], from: usize, passes: F) -> usize
     requires { F.IsAlwaysCallable passes }
     ensures { (p : ℕ → Bool) → Tests (F.post passes) p → result ≡ from + run p (drop from s.now) }
 {
@@ -25,6 +25,20 @@ pub fn find(s: &[u8], from: usize, x: u8) -> usize
     ensures { result ≡ from + run (is_not x) (drop from s.now) }
 {
     run_end(s, from, |y| y != x)
+}
+
+// Where the octets x that stand from `from` on end.
+pub fn run_of(s: &[u8], from: usize, x: u8) -> usize
+    ensures { result ≡ from + run (is x) (drop from s.now) }
+{
+    run_end(s, from, |y| y == x)
+}
+
+// Where the first digit stands at or after `from`, or the end of s.
+pub fn first_digit(s: &[u8], from: usize) -> usize
+    ensures { result ≡ from + run not_digit (drop from s.now) }
+{
+    run_end(s, from, |x| !x.is_ascii_digit())
 }
 
 // Where the digits that stand from `from` on end.

@@ -123,6 +123,6 @@ pub fn passive_reply(content: &[u8]) -> Option<PassiveReply>
     ensures { result ≡ passive_reply content.now }
 {
     let text = content.strip_prefix(b"227 ")?;
-    let from = octets::run_end(text, 0, |x| !x.is_ascii_digit());
+    let from = octets::first_digit(text, 0);
     named_at(text, from)
 }

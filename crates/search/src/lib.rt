@@ -65,7 +65,14 @@ fn skip_blocks(octets: &[u8], from: usize) -> usize
 pub fn ordinary_end(octets: &[u8], from: usize) -> usize
     ensures { result ≡ from + run is_ordinary (drop from octets.now) }
 {
-    octets::run_end(octets, skip_blocks(octets, from), is_ordinary)
+    let start = skip_blocks(octets, from);
+    for i in start..octets.len() {
+        let x = octets[i];
+        if (x == LF) | (x == IAC) {
+            return i;
+        }
+    }
+    start.max(octets.len())
 }
 
 // Where the first 255 stands, in the same way: the LFs before it are gone over. A line has none, so that one search
