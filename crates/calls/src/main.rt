@@ -12,7 +12,6 @@ use places::first_octets;
 use records::Session;
 use rules::SETUP;
 use session::Called;
-use std::alloc::Global;
 use std::io;
 use std::io::{BufWriter, Write};
 
@@ -35,14 +34,14 @@ struct Call<'a> {
 fn main(rt: HostRuntime) -> io::Result<()> {
     let input = streams::read_most(rt.alloc(), rt.reader(), MOST)?;
     let mut out = BufWriter::new(rt.alloc(), io::writer(&rt))?;
-    run_scripts(rt.alloc(), &mut out, input.as_slice())?;
+    run_scripts(&mut out, input.as_slice())?;
     out.flush()
 }
 
-fn run_scripts(alloc: Global, out: &mut impl Write, input: &[u8]) -> io::Result<()> {
+fn run_scripts(out: &mut impl Write, input: &[u8]) -> io::Result<()> {
     let mut rest = input;
     while let Some((script, behind)) = split_script(rest) {
-        run_script(alloc, out, script)?;
+        run_script(out, script)?;
         rest = behind;
     }
     Ok(())
@@ -56,32 +55,37 @@ fn split_script(input: &[u8]) -> Option<(&[u8], &[u8])>
     rest.split_at_checked(u32::from_be_bytes(*size) as usize)
 }
 
-// Runs a script; its results stand behind their length.
-fn run_script(alloc: Global, out: &mut impl Write, script: &[u8]) -> io::Result<()> {
+// Runs a script twice: its results are measured before they are written, and not kept in between.
+fn run_script(out: &mut impl Write, script: &[u8]) -> io::Result<()> {
     let Some((setup, calls)) = script.split_at_checked(SETUP) else {
         return write_number(out, 0);
     };
     let prepared = setups::setup_from(setup);
-    let mut results = Vec::new(alloc);
-    write_octet(&mut results, u8::from(prepared.answer))?;
-    run_calls(&mut results, prepared.session, calls)?;
-    write_number(out, low_half(results.len()))?;
-    out.write_all(results.as_slice())
+    let length = run_calls(out, prepared.session, calls, false)?;
+    write_number(out, length.wrapping_add(1))?;
+    write_octet(out, u8::from(prepared.answer))?;
+    run_calls(out, prepared.session, calls, true)?;
+    Ok(())
 }
 
-// The results of a script's calls, one behind the other.
-fn run_calls(out: &mut impl Write, start: Session, calls: &[u8]) -> io::Result<()> {
+// How long the results of a script's calls are; they are written, one behind the other, where that is asked for. One
+// loop does both: with two, each call's record is copied once more.
+fn run_calls(out: &mut impl Write, start: Session, calls: &[u8], writes: bool) -> io::Result<u32> {
     let mut to_server = [0u8; ROOM];
     let mut to_client = [0u8; ROOM];
     let mut session = start;
+    let mut length = 0u32;
     let mut rest = calls;
     while let Some((call, behind)) = split_call(rest) {
         let called = run_call(session, call, &mut to_server, &mut to_client);
-        write_called(out, called, &to_server, &to_client)?;
+        if writes {
+            write_called(out, called, &to_server, &to_client)?;
+        }
         session = called.session;
+        length = length.wrapping_add(called_length(called));
         rest = behind;
     }
-    Ok(())
+    Ok(length)
 }
 
 // The call in front, and what stands behind it; none where there is no whole one.
@@ -132,6 +136,12 @@ fn write_called(
     out.write_all(first_octets(to_client, called.written.client))?;
     write_number(out, offset(called.session, 0))?;
     write_number(out, offset(called.session, 1))
+}
+
+// How long the result of a call is: one octet, five numbers, and what was written.
+fn called_length(called: Called) -> u32 {
+    let written = low_half(called.written.server).wrapping_add(low_half(called.written.client));
+    written.wrapping_add(21)
 }
 
 fn offset(session: Session, direction: u8) -> u32 {
