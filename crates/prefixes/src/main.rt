@@ -30,9 +30,12 @@ fn print_line(out: &mut impl Write, line: &[u8]) -> io::Result<()> {
         return Ok(());
     }
     let mut parts = line.splitn(2, |x| *x == b'/');
-    match (parts.next().and_then(address::ipv6), parts.next()) {
-        (Some(ipv6), Some(rest)) => print_rest(out, ipv6, rest),
-        _ => print_unreadable(out),
+    let (Some(text), Some(rest)) = (parts.next(), parts.next()) else {
+        return print_unreadable(out);
+    };
+    match address::ipv6(text) {
+        Some(ipv6) => print_rest(out, ipv6, rest),
+        None => print_unreadable(out),
     }
 }
 
