@@ -20,8 +20,8 @@ SCOPE = ROOT / "docs" / "01-scope.md"
 TRACE = ROOT / "docs" / "TRACE.md"
 PROMISES = ROOT / "docs" / "PROMISES.md"
 LANDINGS = ROOT / "docs" / "LANDINGS.md"
-# these two speak of names that are gone
-FORMER = {"DESIGN-PASS.md", "PORT.md"}
+# these speak of names that are gone
+FORMER = {"DESIGN-PASS.md", "LOOK-BACK.md", "PORT.md"}
 DOCUMENTS = [ROOT / "README.md", *(path for path in sorted((ROOT / "docs").glob("*.md")) if path.name not in FORMER)]
 TRACED = ["The session", "Lines", "Client lines", "Server lines", "Demand 3 written out", "Session files"]
 BELIEVED = ["rules", "octets", "address", "commands", "output", "queue", "places", "gives", "upstream", "downstream", "records", "setups", "steps", "counts", "session", "files", "fields", "report", "image", "fashlemor", "hosts", "prefix"]
