@@ -7,6 +7,7 @@
   together the rows cover the sections traced; so those of a request of document 02, which its note in docs/LANDINGS.md quotes.
 - Every definition of the crates that a reader has to believe stands in docs/TRACE.md.
 - The wrong programs that docs/PROMISES.md names are there, and each public function has at least two of its name.
+- No public function asks anything of its callers, as docs/PROOFS.md says.
 - No line of the sources of the crates and of the relay is wider than it may be.
 """
 import pathlib
@@ -155,6 +156,16 @@ def missing_edits():
                 yield f"crates/{crate}: {name} has {owners.count(name)} edits of its name"
 
 
+def asking():
+    """Functions that another crate can call, and that ask something of it."""
+    for library in sorted(ROOT.glob("crates/*/src/lib.rt")):
+        crate = library.parent.parent.name
+        for source in sorted(library.parent.glob("*.rt")):
+            for name, head in re.findall(r"^ *pub (?:extern \"C\" )?fn (\w+)(.*?)^ *\{$", source.read_text(), re.M | re.S):
+                if re.search(r"^ +requires\b", head, re.M) and (source == library or name in public_functions(crate)):
+                    yield f"crates/{crate}: {name} asks something of its callers"
+
+
 def faults():
     known = modules()
     for document in DOCUMENTS:
@@ -181,6 +192,7 @@ def faults():
     for title, words in requests():
         yield from untraced(title, words)
     yield from missing_edits()
+    yield from asking()
     yield from shared()
     traced = TRACE.read_text()
     for module, name in definitions():
