@@ -157,12 +157,14 @@ def missing_edits():
 
 
 def asking():
-    """Functions that another crate can call, and that ask something of it."""
+    """Functions that another crate can call, and that ask something of it: those of lib.rt, of its public modules, and handed on."""
     for library in sorted(ROOT.glob("crates/*/src/lib.rt")):
         crate = library.parent.parent.name
+        whole = {library, *(library.with_name(f"{module}.rt") for module in re.findall(r"^pub mod (\w+);", library.read_text(), re.M))}
         for source in sorted(library.parent.glob("*.rt")):
-            for name, head in re.findall(r"^ *pub (?:extern \"C\" )?fn (\w+)(.*?)^ *\{$", source.read_text(), re.M | re.S):
-                if re.search(r"^ +requires\b", head, re.M) and (source == library or name in public_functions(crate)):
+            # the body begins behind the signature, or with a line of its own behind the clauses
+            for name, head in re.findall(r"^ *pub (?:extern \"C\" )?fn (\w+)(.*?)(?:\)(?: -> [^\n]+)? \{$|^ *\{$)", source.read_text(), re.M | re.S):
+                if re.search(r"^ +requires\b", head, re.M) and (source in whole or name in public_functions(crate)):
                     yield f"crates/{crate}: {name} asks something of its callers"
 
 
